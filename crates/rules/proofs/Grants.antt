@@ -1,0 +1,122 @@
+-- Granting: the laws GrantExists and GrantUnique.
+--
+-- More granted slots are more usable ticks, and more usable ticks never hurt. So if all the free slots together aren't firm, no set of them
+-- is; and if they are, there is a smallest number of first ones that is, since firm can be decided.
+-- In order: deciding firm; the smallest number that passes; more slots, more ticks; the grant. Assumes nothing.
+use mathlib.Core.Path.{_≡_, refl, sym, ap, _∙_}
+use mathlib.Core.Logic.{_⊎_, inl, inr, ⊎-elim}
+use mathlib.Core.Bool.{Bool, true, false, _&&_}
+use Prim.Native.Nat.{ℕ, zero, suc, _+_, _*_, _%_, _≤_, _<_}
+use native.Mathlib.Nat.{le-refl, le-step, le-antisymm, not-suc-le-zero, le-of-suc-le-suc, eq-or-lt-of-le}
+use native.Mathlib.Numerals.{add-one}
+use native.Mathlib.Omega.{arith}
+use borrow.Author.Tests.{ltb-true, lt-ltb}
+use lib.Dec.{ltb}
+use Rattle.rules.specs.Sums.{Subset, bit, number, any}
+use Rattle.rules.specs.Supply.{Task}
+use Rattle.rules.specs.Usable.{usable, grid, covers}
+use Rattle.rules.specs.Worst.{Wheel, Worst, Firm, firmTest}
+use Rattle.rules.specs.Grant.{first, gridTicks, Granted, NoChoice}
+use Rattle.rules.specs.Laws.{GrantExists, GrantUnique}
+use Rattle.rules.proofs.Sums.{and-left, and-right, and-both, any-mono, number-more, number-longer}
+use Rattle.rules.proofs.Worst.{worst-exists, firm-agrees}
+use Rattle.rules.proofs.More.{firm-mono}
+use Rattle.rules.proofs.Total.{slots-turn}
+
+-- ---- deciding firm
+
+pub firm-or-not : (w : ℕ) (u : Subset) → Wheel w u → (t : Task) → Firm u t ⊎ (Firm u t → ⊥)
+firm-or-not w u wheel t =
+    let (c, o, worst) = worst-exists w u wheel t in
+    go c o worst (firmTest t c) refl
+  where
+    go : (c o : ℕ) → Worst w u t c o → (b : Bool) → firmTest t c ≡ b → Firm u t ⊎ (Firm u t → ⊥)
+    go c o worst true e = inl (firm-agrees w u t c o worst .0 e)
+    go c o worst false e =
+        inr (λ firm. let z : true ≡ false = sym (firm-agrees w u t c o worst .1 firm) ∙ e in let n : _≡_ {A = ℕ} 0 1 = cc in omega arith)
+
+-- ---- the smallest number that passes
+
+pub record Smallest (P : ℕ → Type 0) (n : ℕ) : Type 0 where
+  pub place : ℕ
+  pub below : place < n
+  pub holds : P place
+  pub first-one : (i : ℕ) → P i → place ≤ i
+
+smallest-step :
+    (P : ℕ → Type 0) (n : ℕ) → Smallest P n ⊎ ((i : ℕ) → i < n → P i → ⊥) → P n ⊎ (P n → ⊥)
+    → Smallest P (suc n) ⊎ ((i : ℕ) → i < suc n → P i → ⊥)
+smallest-step P n (inl s) d =
+    inl (record { place = s .place; below = le-step (s .below); holds = s .holds; first-one = s .first-one })
+smallest-step P n (inr none) (inl p) =
+    inl (record {
+      place = n;
+      below = le-refl (suc n);
+      holds = p;
+      first-one = λ i h. let l : ¬ (i < n) = λ l. none i l h in omega arith;
+    })
+smallest-step P n (inr none) (inr not) =
+    inr (λ i l h. ⊎-elim (λ (e : i ≡ n). not (rw e at h)) (λ m. none i m h) (eq-or-lt-of-le (le-of-suc-le-suc l)))
+
+smallest-or-none : (P : ℕ → Type 0) → ((i : ℕ) → P i ⊎ (P i → ⊥)) → (n : ℕ) → Smallest P n ⊎ ((i : ℕ) → i < n → P i → ⊥)
+smallest-or-none P dec zero = inr (λ i l h. not-suc-le-zero l)
+smallest-or-none P dec (suc n) = smallest-step P n (smallest-or-none P dec n) (dec n)
+
+-- ---- more slots, more ticks
+
+pub grid-turns : (N v : ℕ) (g : Subset) → 0 < N * v → Wheel (N * v) (gridTicks N v g)
+unfolding gridTicks
+grid-turns N v g pos = slots-turn (N * v) (grid N v g) pos
+
+pub grid-mono :
+    (N v : ℕ) (f g : Subset) → ((i : ℕ) → i < N → f i ≡ true → g i ≡ true)
+    → (x : ℕ) → gridTicks N v f x ≡ true → gridTicks N v g x ≡ true
+unfolding gridTicks usable grid
+grid-mono N v f g h x =
+    any-mono _ _ N (λ i l t. and-both (g i) _ (h i l (and-left (f i) _ t)) (and-right (f i) _ t))
+
+-- The first j of the free slots are among the first j + more, and all of them where j is their number.
+pub first-free : (free : Subset) (j i : ℕ) → first free j i ≡ true → free i ≡ true
+unfolding first
+first-free free j i t = and-left (free i) _ t
+
+pub first-mono : (free : Subset) (i j : ℕ) → i ≤ j → (x : ℕ) → first free i x ≡ true → first free j x ≡ true
+unfolding first
+first-mono free i j l x t =
+    and-both (free x) _ (and-left (free x) _ t)
+    (lt-ltb (number free x) j (omega (arith, ltb-true (number free x) i (and-right (free x) _ t))))
+
+pub first-all : (free : Subset) (N x : ℕ) → x < N → free x ≡ true → first free (number free N) x ≡ true
+unfolding first bit
+first-all free N x l t =
+    let one : bit (free x) ≡ 1 = ap bit t in
+    let upto : number free (x + 1) ≤ number free N = number-longer free (x + 1) N (omega arith) in
+    and-both (free x) _ t (lt-ltb (number free x) (number free N) (omega (arith, number-more free x)))
+
+-- ---- the grant
+
+-- If all the free slots aren't firm, no choice of them is.
+pub no-choice :
+    (N v : ℕ) (free : Subset) (t : Task) → (Firm (gridTicks N v (first free (number free N))) t → ⊥) → NoChoice N v free t
+unfolding NoChoice
+no-choice N v free t not g among firm =
+    not (firm-mono _ _ t (grid-mono N v g (first free (number free N)) (λ i l h. first-all free N i l (among i l h))) firm)
+
+pub grant-exists : GrantExists
+grant-exists N v free t pos =
+    go (smallest-or-none P (λ j. firm-or-not (N * v) _ (grid-turns N v (first free j) pos) t) (suc (number free N)))
+  where
+    P : ℕ → Type 0
+    P j = Firm (gridTicks N v (first free j)) t
+
+    go : Smallest P (suc (number free N)) ⊎ ((i : ℕ) → i < suc (number free N) → P i → ⊥)
+        → ((j : ℕ) × Granted N v free t j) ⊎ NoChoice N v free t
+    go (inl s) = inl (s .place, record { enough = le-of-suc-le-suc (s .below); firm = s .holds; smallest = s .first-one })
+    go (inr none) = inr (no-choice N v free t (none (number free N) (le-refl _)))
+
+pub grant-unique : GrantUnique
+unfolding NoChoice
+grant-unique N v free t j g = (
+  λ i h. le-antisymm (h .smallest j (g .firm)) (g .smallest i (h .firm)),
+  λ none. none (first free j) (λ i l. first-free free j i) (g .firm),
+)

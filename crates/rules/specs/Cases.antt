@@ -1,0 +1,72 @@
+-- Document 01, "Cases by hand": P1 to P14 as one list under one statement. Definitions only.
+--
+--     Case           a case by hand, of one of five kinds
+--     Holds          what a case claims, by the rules
+--     Each P l       P holds of every entry of l
+--     cases          P1 to P14, in the paper's order
+--     CasesHold      the one statement
+use mathlib.Core.Path.{_≡_}
+use mathlib.Core.Logic.{_↔_}
+use mathlib.Core.Bool.{Bool, true, false, not}
+use mathlib.Core.List.{List, [], _∷_}
+use Prim.Native.Nat.{ℕ}
+use lib.Dec.{eqb}
+use Rattle.rules.specs.Sums.{Subset}
+use Rattle.rules.specs.Supply.{Task, count}
+use Rattle.rules.specs.Usable.{Slot, usable, tableOf}
+use Rattle.rules.specs.Worst.{Worst, Firm}
+use Rattle.rules.specs.Grant.{Granted, NoChoice}
+
+-- The wheel w and its slots, or the slots N, v and the free ones; the task; then what is claimed.
+pub data Case : Type 0 where
+  from : (w : ℕ) → List Slot → Task → (half-tick drops : ℕ) → Case
+  worst : (w : ℕ) → List Slot → Task → (drops half-tick : ℕ) → Case
+  verdict : (w : ℕ) → List Slot → Task → (drops half-tick : ℕ) → (firm : Bool) → Case
+  grant : (N v : ℕ) → (free : Subset) → Task → (j : ℕ) → Case
+  refusal13 : (N v : ℕ) → (free : Subset) → Task → Case
+
+abbrev pub Holds : Case → Type 0
+Holds (from w s t o c) = count 2 (usable w (tableOf s)) t o ≡ c
+Holds (worst w s t c o) = Worst w (usable w (tableOf s)) t c o
+Holds (verdict w s t c o b) =
+    Worst w (usable w (tableOf s)) t c o × ((b ≡ true) ↔ Firm (usable w (tableOf s)) t)
+Holds (grant N v free t j) = Granted N v free t j
+Holds (refusal13 N v free t) = NoChoice N v free t
+
+abbrev pub Each : (Case → Type 0) → List Case → Type 0
+Each P [] = Unit {0}
+Each P (c ∷ cs) = P c × Each P cs
+
+abbrev slot : ℕ → ℕ → Slot
+slot a b = record { start = a; end = b }
+
+abbrev task : ℕ → ℕ → ℕ → ℕ → ℕ → Task
+task e D h m k = record { e = e; D = D; h = h; m = m; k = k }
+
+-- The paper's T, its slot, its wheel, with e and m to be filled in.
+abbrev T : ℕ → ℕ → Task
+T e m = task e 5 14 m 2
+
+abbrev short : List Slot
+short = slot 0 8 ∷ []
+
+abbrev pub cases : List Case
+cases =
+    from 10 short (T 4 1) 8 1
+    ∷ from 10 short (T 4 1) 9 2
+    ∷ from 10 short (T 4 1) 10 1
+    ∷ from 10 short (T 4 1) 19 0
+    ∷ verdict 10 short (T 4 1) 2 9 false
+    ∷ verdict 10 short (T 4 0) 2 9 true
+    ∷ worst 10 short (T 3 1) 0 0
+    ∷ worst 10 short (T 6 1) 2 0
+    ∷ verdict 10 (slot 0 4 ∷ slot 4 8 ∷ []) (T 4 1) 2 9 false
+    ∷ worst 10 [] (task 1 5 5 1 3) 3 0
+    ∷ worst 55 (slot 11 21 ∷ slot 33 43 ∷ []) (task 27 70 70 3 10) 7 39
+    ∷ grant 5 2 (λ _. true) (T 4 1) 5
+    ∷ grant 5 2 (λ _. true) (T 3 1) 4
+    ∷ refusal13 5 2 (λ i. not (eqb i 4)) (T 4 1)
+    ∷ []
+
+abbrev pub CasesHold : Type 0
+CasesHold = Each Holds cases

@@ -1,0 +1,9 @@
+-- In reading order: what document 01 says (Sums to Grant), the laws that follow (Laws), and the cases by hand (Cases).
+pub mod Sums
+pub mod Supply
+pub mod Usable
+pub mod Worst
+pub mod Zone
+pub mod Grant
+pub mod Laws
+pub mod Cases

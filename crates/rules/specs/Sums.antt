@@ -1,0 +1,27 @@
+-- Sums and tests over the numbers below n. Definitions only.
+--
+--     bit b         1 for true, 0 for false
+--     sum f n       f 0 + f 1 + .. + f (n − 1); 0 for n = 0
+--     number f n    how many i below n have f i
+--     any f n       some i below n has f i; false for n = 0
+--     Subset        a set of numbers, by its test
+use mathlib.Core.Bool.{Bool, true, false, _||_}
+use Prim.Native.Nat.{ℕ, zero, suc, _+_}
+
+abbrev pub Subset : Type 0
+Subset = ℕ → Bool
+
+unfoldable pub bit : Bool → ℕ
+bit true = 1
+bit false = 0
+
+unfoldable pub sum : (ℕ → ℕ) → ℕ → ℕ
+sum f zero = 0
+sum f (suc n) = sum f n + f n
+
+unfoldable pub number : Subset → ℕ → ℕ
+number f n = sum (λ i. bit (f i)) n
+
+unfoldable pub any : Subset → ℕ → Bool
+any f zero = false
+any f (suc n) = any f n || f n
