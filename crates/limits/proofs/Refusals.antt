@@ -1,0 +1,143 @@
+-- The laws of `when`, `otherwise` and `ifNone`, by which every refusal is proved to be the first that applies. Assumes nothing.
+use mathlib.Core.Path.{_≡_, refl, sym, ap, _∙_}
+use mathlib.Core.Bool.{Bool, true, false, _||_}
+use Prim.Native.Nat.{ℕ, zero, suc, _*_, _^_, _≤_, _<_}
+use native.Mathlib.Omega.{arith}
+use native.Mathlib.Nat.{mul-le-mul, le-of-eq}
+use lib.Dec.{ltb, eqb}
+use borrow.Author.Tests.{eqb-false, ltb-true, ltb-false, lt-ltb, eq-eqb, ne-eqb}
+use Rattle.limits.specs.Refusal.{_when_, _otherwise_, ifNone}
+use Rattle.limits.specs.Limits.{outside, gridRefusal, mostGranted, mostTicks, wheelRefusal, madeWheel, wheelNumber, taskRefusalOf, madeTask}
+use Rattle.limits.specs.declared.WheelMade.the-variants as wheelMade
+use Rattle.limits.specs.declared.TaskMade.the-variants as taskMade
+use Rattle.limits.specs.declared.Task.{Task}
+
+pub when-true : (n : ℕ) (t : Bool) → t ≡ true → (n when t) ≡ n
+unfolding _when_
+when-true n t e = ap (λ x. n when x) e
+
+pub when-false : (n : ℕ) (t : Bool) → t ≡ false → (n when t) ≡ 0
+unfolding _when_
+when-false n t e = ap (λ x. n when x) e
+
+pub otherwise-none : (a b : ℕ) → a ≡ 0 → (a otherwise b) ≡ b
+unfolding _otherwise_
+otherwise-none a b e = ap (λ x. x otherwise b) e
+
+pub otherwise-some : (a b : ℕ) → (a ≡ 0 → ⊥) → (a otherwise b) ≡ a
+unfolding _otherwise_
+otherwise-some zero b n = absurd (n refl)
+otherwise-some (suc a) b n = refl
+
+-- The first part gives the number; or it gives none and the second does.
+pub at-first : (a b x : ℕ) → x ≡ a → (x ≡ 0 → ⊥) → x ≡ (a otherwise b)
+at-first a b x e n = e ∙ sym (otherwise-some a b (λ z. n (e ∙ z)))
+
+pub at-next : (a b x : ℕ) → a ≡ 0 → x ≡ b → x ≡ (a otherwise b)
+at-next a b x e f = f ∙ sym (otherwise-none a b e)
+
+-- No refusal at all means that neither part gives one.
+pub both-none : (a b : ℕ) → (a otherwise b) ≡ 0 → (a ≡ 0) × (b ≡ 0)
+unfolding _otherwise_
+both-none zero b e = (refl, e)
+both-none (suc a) b e = absurd (omega arith)
+
+-- A number above 0 under `when` is given exactly when the test passes.
+pub when-none : (n : ℕ) (t : Bool) → 0 < n → (n when t) ≡ 0 → t ≡ false
+unfolding _when_
+when-none n true l e = absurd (omega arith)
+when-none n false l e = refl
+
+pub none-left : {A : Type 0} (n : ℕ) (a b : A) → n ≡ 0 → ifNone n a b ≡ a
+unfolding ifNone
+none-left n a b e = ap (λ x. ifNone x a b) e
+
+pub none-right : {A : Type 0} (n : ℕ) (a b : A) → (n ≡ 0 → ⊥) → ifNone n a b ≡ b
+unfolding ifNone
+none-right zero a b h = absurd (h refl)
+none-right (suc n) a b h = refl
+
+pub or-false : (a b : Bool) → (a || b) ≡ false → (a ≡ false) × (b ≡ false)
+or-false true b e = absurd (let z : _≡_ {A = ℕ} 0 1 = cc in omega arith)
+or-false false b e = (refl, e)
+
+-- What passes the bound.
+pub inside : (x most : ℕ) → outside x most ≡ false → (0 < x) × (x ≤ most)
+unfolding outside
+inside x most e =
+    let p = or-false (eqb x 0) (ltb most x) e in
+    let n : ¬ (x ≡ 0) = eqb-false x 0 (p .0) in
+    (omega arith, ltb-false most x (p .1))
+
+pub outside-zero : (x most : ℕ) → x ≡ 0 → eqb x 0 ≡ outside x most
+unfolding outside
+outside-zero x most e = eq-eqb x 0 e ∙ sym (ap (λ b. b || ltb most x) (eq-eqb x 0 e))
+
+pub outside-above : (x most : ℕ) → (x ≡ 0 → ⊥) → ltb most x ≡ outside x most
+unfolding outside
+outside-above x most n = sym (ap (λ b. b || ltb most x) (ne-eqb x 0 n))
+
+-- ---- what a constructor answers has the number of its refusal
+
+pub wheel-number : (w : ℕ) → wheelNumber (madeWheel w) ≡ wheelRefusal w
+unfolding wheelNumber madeWheel ifNone
+wheel-number w = go (wheelRefusal w)
+  where
+    go : (n : ℕ) → wheelNumber (ifNone n (wheelMade.Made (record { w = w })) (wheelMade.Refused n)) ≡ n
+    go zero = refl
+    go (suc n) = refl
+
+-- A task that was made had no refusal and is the one asked for; a refused one has its number.
+pub task-made : (t x : Task) → madeTask t ≡ taskMade.Made x → (taskRefusalOf t ≡ 0) × (x ≡ t)
+unfolding madeTask ifNone
+task-made t x = go (taskRefusalOf t)
+  where
+    go : (n : ℕ) → ifNone n (taskMade.Made t) (taskMade.Refused n) ≡ taskMade.Made x → (n ≡ 0) × (x ≡ t)
+    go zero e = (refl, cc)
+    go (suc n) e = absurd (let z : _≡_ {A = ℕ} 0 1 = cc in omega arith)
+
+pub task-refused : (t : Task) (m : ℕ) → madeTask t ≡ taskMade.Refused m → (m ≡ taskRefusalOf t) × (m ≡ 0 → ⊥)
+unfolding madeTask ifNone
+task-refused t m = go (taskRefusalOf t)
+  where
+    go : (n : ℕ) → ifNone n (taskMade.Made t) (taskMade.Refused n) ≡ taskMade.Refused m → (m ≡ n) × (m ≡ 0 → ⊥)
+    go zero e = absurd (let z : _≡_ {A = ℕ} 0 1 = cc in omega arith)
+    go (suc n) e = let f : m ≡ suc n = cc in (f, λ z. omega arith)
+
+-- ---- a grant's wheel, tested part by part
+
+pub grid-number : (N v : ℕ) → outside N mostGranted ≡ true → 12 ≡ gridRefusal N v
+unfolding gridRefusal _when_
+grid-number N v e = sym (ap (λ b. 12 when (b || eqb v 0 || ltb mostTicks (N * v))) e)
+
+-- A length over the wheel's bound makes the product too large whatever the number of slots is.
+too-long : (N v : ℕ) → 0 < N → outside v mostTicks ≡ true → (eqb v 0 || ltb mostTicks (N * v)) ≡ true
+unfolding outside
+too-long N v l e = go (eqb v 0) refl
+  where
+    go : (b : Bool) → eqb v 0 ≡ b → (b || ltb mostTicks (N * v)) ≡ true
+    go true p = refl
+    go false p =
+        let above : ltb mostTicks v ≡ true = sym (ap (λ b. b || ltb mostTicks v) p) ∙ e in
+        let m : 1 * v ≤ N * v = mul-le-mul l (le-of-eq refl) in
+        lt-ltb mostTicks (N * v) (omega (arith, ltb-true mostTicks v above))
+
+pub grid-length : (N v : ℕ) → outside N mostGranted ≡ false → outside v mostTicks ≡ true → 12 ≡ gridRefusal N v
+unfolding gridRefusal _when_
+grid-length N v e f =
+    sym (ap (λ b. 12 when (b || eqb v 0 || ltb mostTicks (N * v))) e
+    ∙ ap (λ b. 12 when b) (too-long N v (inside N mostGranted e .0) f))
+
+pub grid-product :
+    (N v : ℕ) → outside N mostGranted ≡ false → outside v mostTicks ≡ false
+    → (12 when ltb mostTicks (N * v)) ≡ gridRefusal N v
+unfolding gridRefusal _when_
+grid-product N v e f =
+    let some : 0 < v = inside v mostTicks f .0 in
+    sym (ap (λ b. 12 when (b || eqb v 0 || ltb mostTicks (N * v))) e
+    ∙ ap (λ b. 12 when (b || ltb mostTicks (N * v))) (ne-eqb v 0 (λ z. omega arith)))
+
+pub grid-fits : (N v : ℕ) → outside N mostGranted ≡ false → outside v mostTicks ≡ false → N * v < 2 ^ 64
+grid-fits N v e f =
+    let m : N * v ≤ mostGranted * mostTicks = mul-le-mul (inside N mostGranted e .1) (inside v mostTicks f .1) in
+    omega arith

@@ -1,0 +1,23 @@
+-- Document 01, "Records": unsigned numbers in bytes, lowest byte first. Definitions only.
+--
+--     le2 l at, le4 l at    the number in the two or four bytes of l from place at on; a byte past the end counts 0
+--     bytes2 x, bytes4 x    the two or four bytes of x
+--     over a b              b with a put over its start; what stands behind a stays
+use mathlib.Core.List.{List, [], _∷_, _++_}
+use Prim.Native.Nat.{ℕ, _+_, _*_, _/_, _%_}
+use lib.ListN.{length, getD, drop}
+
+abbrev pub le2 : List ℕ → ℕ → ℕ
+le2 l at = getD l at 0 + 256 * getD l (at + 1) 0
+
+abbrev pub le4 : List ℕ → ℕ → ℕ
+le4 l at = getD l at 0 + 256 * getD l (at + 1) 0 + 65536 * getD l (at + 2) 0 + 16777216 * getD l (at + 3) 0
+
+abbrev pub bytes2 : ℕ → List ℕ
+bytes2 x = x % 256 ∷ x / 256 % 256 ∷ []
+
+abbrev pub bytes4 : ℕ → List ℕ
+bytes4 x = x % 256 ∷ x / 256 % 256 ∷ x / 65536 % 256 ∷ x / 16777216 % 256 ∷ []
+
+unfoldable pub over : List ℕ → List ℕ → List ℕ
+over a b = a ++ drop (length a) b

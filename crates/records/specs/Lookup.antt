@@ -1,0 +1,37 @@
+-- Document 01, "Lookup". Definitions only.
+--
+--     whole l               how many whole task records l has; bytes behind the last are ignored
+--     has l id i            record i of l has that id
+--     firstOf f n i         the first place from i on, of n places, that passes f; i + n where none does
+--     part l i              the 32 bytes of record i
+--     found l id            the first record of l with that id, or nothing
+--     lookedUp s f id       from the site file if it has the id, else from the factory file, else nothing
+use mathlib.Core.Bool.{Bool, true, false, cond}
+use mathlib.Core.List.{List, []}
+use Prim.Native.Nat.{ℕ, zero, suc, _+_, _*_, _/_}
+use lib.Dec.{eqb, ltb}
+use lib.ListN.{length, take, drop}
+use Rattle.octets.specs.Octets.{le4}
+use Rattle.rules.specs.Sums.{Subset}
+use Rattle.records.specs.Records.{taskBytes}
+
+abbrev pub whole : List ℕ → ℕ
+whole l = length l / taskBytes
+
+unfoldable pub has : List ℕ → ℕ → Subset
+has l id i = eqb (le4 l (taskBytes * i)) id
+
+unfoldable pub firstOf : Subset → ℕ → ℕ → ℕ
+firstOf f zero i = i
+firstOf f (suc n) i = cond (f i) i (firstOf f n (i + 1))
+
+unfoldable pub place : List ℕ → ℕ → ℕ
+place l id = firstOf (has l id) (whole l) 0
+
+unfoldable pub part : List ℕ → ℕ → List ℕ
+part l i = take taskBytes (drop (taskBytes * i) l)
+
+unfoldable pub lookedUp : List ℕ → List ℕ → ℕ → List ℕ
+lookedUp site factory id =
+    cond (ltb (place site id) (whole site)) (part site (place site id))
+    (cond (ltb (place factory id) (whole factory)) (part factory (place factory id)) [])

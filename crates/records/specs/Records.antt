@@ -1,0 +1,58 @@
+-- Document 01, "Records": task, slot and answer records. Definitions only.
+--
+--     taskRecord l                 the numbers of a task record's 32 bytes
+--     slotOf s                     the rules' slot of a slot that was read
+--     slotAt l first i             slot record first + i of the slot buffer l
+--     boardOf r l                  the slots that a task record selects, all the painter's
+--     ticksOf r l                  the ticks they make usable (rule 1)
+--     askedOf r                    the rules' task of a task record
+--     answerBytes id n f c o       an answer record: id, refusal number, firm 1 or 0, worst count, worst offset
+use mathlib.Core.Bool.{true}
+use mathlib.Core.List.{List, _++_}
+use Prim.Native.Nat.{ℕ, _+_, _*_}
+use Rattle.octets.specs.Octets.{le2, le4, bytes2, bytes4}
+use Rattle.rules.specs.Sums.{Subset}
+use Rattle.rules.specs.Supply as rules
+use Rattle.rules.specs.Usable.{Slot, Table, usable}
+use Rattle.records.specs.declared.TaskRecord.{TaskRecord}
+use Rattle.records.specs.declared.Slot as code
+
+abbrev pub taskBytes : ℕ
+taskBytes = 32
+
+abbrev pub slotBytes : ℕ
+slotBytes = 8
+
+abbrev pub replyBytes : ℕ
+replyBytes = 16
+
+abbrev pub taskRecord : List ℕ → TaskRecord
+taskRecord l =
+    record {
+        id = le4 l 0
+        ; w = le4 l 4
+        ; e = le4 l 8
+        ; d = le4 l 12
+        ; h = le4 l 16
+        ; m = le4 l 20
+        ; k = le4 l 24
+        ; first = le2 l 28
+        ; count = le2 l 30 }
+
+abbrev pub slotOf : code.Slot → Slot
+slotOf s = record { start = s .start; end = s .end }
+
+unfoldable pub slotAt : List ℕ → ℕ → ℕ → Slot
+slotAt l first i = record { start = le4 l (slotBytes * (first + i)); end = le4 l (slotBytes * (first + i) + 4) }
+
+unfoldable pub boardOf : TaskRecord → List ℕ → Table
+boardOf r l = record { size = r .count; slot = slotAt l (r .first); ours = λ _. true }
+
+unfoldable pub ticksOf : TaskRecord → List ℕ → Subset
+ticksOf r l = usable (r .w) (boardOf r l)
+
+abbrev pub askedOf : TaskRecord → rules.Task
+askedOf r = record { e = r .e; D = r .d; h = r .h; m = r .m; k = r .k }
+
+abbrev pub answerBytes : ℕ → ℕ → ℕ → ℕ → ℕ → List ℕ
+answerBytes id n f c o = bytes4 id ++ bytes2 n ++ bytes2 f ++ bytes4 c ++ bytes4 o

@@ -1,0 +1,87 @@
+-- Document 01's table of refusals 1 to 11 and the one order in which they are checked. Definitions only.
+--
+--     sizes, room, range         1, 2 and 3
+--     slotRefusal w b s          what is wrong with slot s behind a slot that ends at b, 0 for nothing
+--     slotsRefusal r l           5: too many slots, or the first bad one
+--     bodyRefusal r l            3 to 10 of a task record on a slot buffer, the first that applies
+--     beyond w x                 11
+--     judgeRefusal t l reply     1 to 10, as judging checks them
+--     pointRefusal t l x         1, 3 to 11, as every question at a half tick x checks them
+--     checked r l                what an accepted task record is turned into, or its refusal
+--
+-- The part's first slot has nothing before it: the record in front of `first` isn't the previous slot.
+use mathlib.Core.Bool.{Bool, not, _||_}
+use mathlib.Core.List.{List}
+use Prim.Native.Nat.{ℕ, zero, suc, _+_, _*_, _/_, _%_}
+use lib.Dec.{leb, ltb, eqb}
+use lib.ListN.{length}
+use Rattle.rules.specs.Usable.{Slot}
+use Rattle.limits.specs.Refusal.{_when_, _otherwise_, ifNone}
+use Rattle.limits.specs.Limits.{wheelRefusal, taskRefusal}
+use Rattle.records.specs.Records.{taskBytes, slotBytes, replyBytes, taskRecord, slotAt}
+use Rattle.records.specs.declared.TaskRecord.{TaskRecord}
+use Rattle.records.specs.declared.Job.{Job}
+use Rattle.records.specs.declared.Checked.{Checked}
+use Rattle.records.specs.declared.Checked.the-variants.{Accepted, Refused}
+
+abbrev pub mostSlots : ℕ
+mostSlots = 64
+
+unfoldable pub sizes : List ℕ → List ℕ → ℕ
+sizes task slots = 1 when (not (eqb (length task) taskBytes) || not (eqb (length slots % slotBytes) 0))
+
+unfoldable pub room : List ℕ → ℕ
+room reply = 2 when ltb (length reply) replyBytes
+
+unfoldable pub range : TaskRecord → List ℕ → ℕ
+range r slots = 3 when ltb (length slots / slotBytes) (r .first + r .count)
+
+unfoldable pub slotRefusal : ℕ → ℕ → Slot → ℕ
+slotRefusal w before s =
+    5 when leb (s .end) (s .start)
+    otherwise 5 when ltb w (s .end)
+    otherwise 5 when ltb (s .start) before
+
+unfoldable pub endBefore : (ℕ → Slot) → ℕ → ℕ
+endBefore slot zero = 0
+endBefore slot (suc i) = slot i .end
+
+-- The first of n slots that is bad gives the number.
+unfoldable pub firstBad : ℕ → (ℕ → Slot) → ℕ → ℕ
+firstBad w slot zero = 0
+firstBad w slot (suc i) = firstBad w slot i otherwise slotRefusal w (endBefore slot i) (slot i)
+
+unfoldable pub slotsRefusal : TaskRecord → List ℕ → ℕ
+slotsRefusal r slots =
+    5 when ltb mostSlots (r .count)
+    otherwise firstBad (r .w) (slotAt slots (r .first)) (r .count)
+
+-- The refusals of a slot table, then those of the task.
+unfoldable pub boardRefusal : TaskRecord → List ℕ → ℕ
+boardRefusal r slots = range r slots otherwise wheelRefusal (r .w) otherwise slotsRefusal r slots
+
+unfoldable pub bodyRefusal : TaskRecord → List ℕ → ℕ
+bodyRefusal r slots = boardRefusal r slots otherwise taskRefusal (r .e) (r .d) (r .h) (r .m) (r .k)
+
+unfoldable pub beyond : ℕ → ℕ → ℕ
+beyond w offset = 11 when leb (2 * w) offset
+
+unfoldable pub judgeRefusal : List ℕ → List ℕ → List ℕ → ℕ
+judgeRefusal task slots reply = sizes task slots otherwise room reply otherwise bodyRefusal (taskRecord task) slots
+
+unfoldable pub pointRefusal : List ℕ → List ℕ → ℕ → ℕ
+pointRefusal task slots offset =
+    sizes task slots
+    otherwise bodyRefusal (taskRecord task) slots
+    otherwise beyond (taskRecord task .w) offset
+
+abbrev pub jobOf : TaskRecord → Job
+jobOf r =
+    record {
+        w = r .w
+        ; first = r .first
+        ; count = r .count
+        ; task = record { e = r .e; d = r .d; h = r .h; m = r .m; k = r .k } }
+
+unfoldable pub checked : TaskRecord → List ℕ → Checked
+checked r slots = ifNone (bodyRefusal r slots) (Accepted (jobOf r)) (Refused (bodyRefusal r slots))

@@ -1,0 +1,100 @@
+// Task, slot and answer records: reading them, refusing them in document 01's order, and looking a task up by its id.
+pub mod answer;
+pub mod board;
+pub mod lookup;
+
+ghost use mathlib.Core.Path.{_≡_};
+ghost use lib.ListN.{length};
+ghost use Rattle.records.specs.Records.{taskBytes, taskRecord};
+ghost use Rattle.records.specs.Refusals.{sizes, checked};
+
+use limits::Task;
+use limits::TaskMade;
+
+// The numbers of a task record, as they stand in it.
+pub struct TaskRecord {
+    pub id: usize,
+    pub w: usize,
+    pub e: usize,
+    pub d: usize,
+    pub h: usize,
+    pub m: usize,
+    pub k: usize,
+    pub first: usize,
+    pub count: usize,
+}
+
+pub struct Slot {
+    pub start: usize,
+    pub end: usize,
+}
+
+// A task record that was accepted: a good wheel and task, and the part of the slot buffer that is its table.
+pub struct Job {
+    pub w: usize,
+    pub first: usize,
+    pub count: usize,
+    pub task: Task,
+}
+
+pub enum Checked {
+    Accepted(Job),
+    Refused(u32),
+}
+
+// Refusal 1, or 0.
+pub fn sizes(task: &[u8], slots: &[u8]) -> u32
+    ensures { λ r. ⌜ r ≡ sizes (now (task .entry)) (now (slots .entry)) ⌝ }
+{
+    if task.len() != 32 {
+        return 1;
+    }
+    if slots.len() % 8 != 0 {
+        return 1;
+    }
+    0
+}
+
+// The numbers of a task record of 32 bytes.
+pub fn read(task: &[u8]) -> TaskRecord
+    requires { ⌜ length (now task) ≡ taskBytes ⌝ }
+    ensures { λ r. ⌜ r ≡ taskRecord (now (task .entry)) ⌝ }
+{
+    TaskRecord {
+        id: octets::four(task, 0),
+        w: octets::four(task, 4),
+        e: octets::four(task, 8),
+        d: octets::four(task, 12),
+        h: octets::four(task, 16),
+        m: octets::four(task, 20),
+        k: octets::four(task, 24),
+        first: octets::two(task, 28),
+        count: octets::two(task, 30),
+    }
+}
+
+// The accepted job, or the first of the refusals 3 to 10 that applies. The wheel and its table come before the task's own numbers.
+pub fn check(r: TaskRecord, slots: &[u8]) -> Checked
+    ensures { λ a. ⌜ a ≡ checked r (now (slots .entry)) ⌝ }
+{
+    let n = board::refusal(r, slots);
+    if n != 0 {
+        return Checked::Refused(n);
+    }
+    let asked = Task {
+        e: r.e,
+        d: r.d,
+        h: r.h,
+        m: r.m,
+        k: r.k,
+    };
+    match Task::new(asked) {
+        TaskMade::Refused(bad) => Checked::Refused(bad),
+        TaskMade::Made(task) => Checked::Accepted(Job {
+            w: r.w,
+            first: r.first,
+            count: r.count,
+            task,
+        }),
+    }
+}
