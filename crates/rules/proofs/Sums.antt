@@ -2,7 +2,7 @@
 --
 -- Names: sum-.. of `sum`, number-.. of `number`, any-.. of `any`; -cong: equal terms, equal results; -mono: larger terms, larger results;
 -- -split: a range in two parts; -const: one term throughout.
--- In order: bits; sums; numbers; some and all; the first largest value. Not here: anything of ticks.
+-- In order: order; bits; sums; numbers; some and all; the first largest value. Not here: anything of ticks.
 -- Assumes nothing.
 use mathlib.Core.Path.{_≡_, refl, sym, ap, _∙_}
 use mathlib.Core.Logic.{_⊎_, inl, inr, ⊎-elim}
@@ -14,6 +14,15 @@ use native.Mathlib.Omega.{arith}
 use lib.Dec.{ltb, leb}
 use borrow.Author.Tests.{leb-true, leb-false, le-leb, lt-leb}
 use Rattle.rules.specs.Sums.{Subset, bit, sum, number, any}
+
+-- ---- order
+
+pub le-or-lt : (a b : ℕ) → (a ≤ b) ⊎ (b < a)
+le-or-lt a b = go (leb a b) refl
+  where
+    go : (t : Bool) → leb a b ≡ t → (a ≤ b) ⊎ (b < a)
+    go true e = inl (leb-true a b e)
+    go false e = inr (leb-false a b e)
 
 -- ---- bits
 
@@ -90,6 +99,11 @@ pub number-none : (f : Subset) → number f 0 ≡ 0
 unfolding number sum
 number-none f = refl
 
+pub number-le : (f : Subset) (n : ℕ) → number f n ≤ n
+unfolding number sum
+number-le f zero = zero-le
+number-le f (suc n) = omega (arith, number-le f n, bit-le (f n))
+
 pub number-more : (f : Subset) (n : ℕ) → number f (n + 1) ≡ number f n + bit (f n)
 unfolding number sum
 number-more f n = rw add-one refl
@@ -128,6 +142,11 @@ any-intro f (suc n) i l h =
     (λ e. or-right (any f n) (f n) (rw e at h))
     (λ m. or-left (any f n) (f n) (any-intro f n i m h))
     (eq-or-lt-of-le (le-of-suc-le-suc l))
+
+pub any-none : (f : Subset) (n : ℕ) → ((i : ℕ) → i < n → f i ≡ false) → any f n ≡ false
+unfolding any
+any-none f zero h = refl
+any-none f (suc n) h = ap (λ b. b || f n) (any-none f n (λ i l. h i (le-step l))) ∙ h n (le-refl (suc n))
 
 pub any-mono : (f g : Subset) (n : ℕ) → ((i : ℕ) → i < n → f i ≡ true → g i ≡ true) → any f n ≡ true → any g n ≡ true
 unfolding any

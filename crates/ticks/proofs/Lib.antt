@@ -1,0 +1,3 @@
+pub mod Ramps
+pub mod Slots
+pub mod Marks

@@ -1,0 +1,146 @@
+-- Which ticks of a grant's wheel are usable, and the fill of its total slot by slot. Assumes nothing.
+use mathlib.Core.Path.{_≡_, refl, sym, ap, _∙_}
+use mathlib.Core.Logic.{_⊎_, inl, inr, ⊎-elim}
+use mathlib.Core.Bool.{Bool, true, false, _&&_, and-false}
+use mathlib.Core.List.{List}
+use Prim.Native.Nat.{ℕ, zero, suc, _+_, _-_, _*_, _%_, _≤_, _<_}
+use native.Mathlib.Nat.{mod-eq-of-lt, le-refl, le-trans, le-antisymm, add-mul, one-mul, zero-mul, mul-le-mul-right, eq-or-lt-of-le}
+use native.Mathlib.Omega.{arith}
+use native.Mathlib.Decide.{ℕ-discrete}
+use lib.Dec.{leb, ltb, eqb}
+use lib.ListN.{length, getD, set, length-set}
+use borrow.Author.Tests.{le-leb, lt-leb, lt-ltb, le-ltb, eq-eqb, ne-eqb}
+use Rattle.limits.specs.Limits.{mostTicks}
+use Rattle.rules.specs.Sums.{Subset, bit, any, number}
+use Rattle.rules.specs.Usable.{Slot, covers, usable, grid}
+use Rattle.rules.specs.Grant.{first, gridTicks}
+use Rattle.rules.proofs.Sums.{le-or-lt, any-intro, any-none, bit-le, number-none, number-more, number-le}
+use Rattle.ticks.specs.Total.{Upto, Ramp, Ramped, freeOf, GridFits}
+use Rattle.ticks.proofs.Ramps.{ramp-total}
+use Rattle.ticks.proofs.Slots.{upto-small, upto-none}
+
+-- ---- a mark and its bit
+
+pub free-yes : (m : ℕ) → m ≡ 1 → 1 ≡ bit (eqb m 1)
+unfolding bit
+free-yes m e = sym (ap bit (eq-eqb m 1 e))
+
+pub free-no : (m : ℕ) → (m ≡ 1 → ⊥) → 0 ≡ bit (eqb m 1)
+unfolding bit
+free-no m n = sym (ap bit (ne-eqb m 1 n))
+
+pub given-yes : (m s j : ℕ) → m ≡ 1 → s < j → 1 ≡ bit (eqb m 1 && ltb s j)
+unfolding bit
+given-yes m s j e l = sym (ap (λ b. bit (b && ltb s j)) (eq-eqb m 1 e) ∙ ap bit (lt-ltb s j l))
+
+pub given-late : (m s j : ℕ) → j ≤ s → 0 ≡ bit (eqb m 1 && ltb s j)
+unfolding bit
+given-late m s j l = sym (ap (λ b. bit (eqb m 1 && b)) (le-ltb s j l) ∙ ap bit (and-false (eqb m 1)))
+
+pub given-taken : (m s j : ℕ) → (m ≡ 1 → ⊥) → 0 ≡ bit (eqb m 1 && ltb s j)
+unfolding bit
+given-taken m s j n = sym (ap (λ b. bit (b && ltb s j)) (ne-eqb m 1 n))
+
+-- ---- a tick of slot i is usable where slot i is granted
+
+module _ (N v : ℕ) (g : Subset) (i x : ℕ) (inside : i < N) (low : i * v ≤ x) (high : x < i * v + v) where
+  next : (a : ℕ) → (a + 1) * v ≡ a * v + v
+  next a = add-mul a 1 v ∙ ap (λ n. a * v + n) (one-mul v)
+
+  wide : x < N * v
+  wide = omega (arith, mul-le-mul-right v inside, ap (λ n. n * v) (suc-is i), next i)
+    where
+      suc-is : (a : ℕ) → suc a ≡ a + 1
+      suc-is a = omega arith
+
+  elsewhere : (k : ℕ) → (k ≡ i → ⊥) → covers (record { start = k * v; end = (k + 1) * v }) x ≡ false
+  unfolding covers
+  elsewhere k n =
+      ⊎-elim
+      (λ (below : k + 1 ≤ i).
+          let m : (k + 1) * v ≤ i * v = mul-le-mul-right v below in
+          ap (λ b. leb (k * v) x && b) (le-ltb x ((k + 1) * v) (omega arith)) ∙ and-false (leb (k * v) x))
+      (λ (above : i < k + 1).
+          let m : (i + 1) * v ≤ k * v = mul-le-mul-right v (omega arith) in
+          ap (λ b. b && ltb x ((k + 1) * v)) (lt-leb (k * v) x (omega (arith, next i))))
+      (le-or-lt (k + 1) i)
+
+  here : covers (record { start = i * v; end = (i + 1) * v }) x ≡ true
+  unfolding covers
+  here =
+      ap (λ b. b && ltb x ((i + 1) * v)) (le-leb (i * v) x low)
+      ∙ lt-ltb x ((i + 1) * v) (omega (arith, next i))
+
+  pub grid-tick : gridTicks N v g x ≡ g i
+  unfolding gridTicks usable grid
+  grid-tick = ap (λ y. any (λ k. g k && covers (record { start = k * v; end = (k + 1) * v }) y) N) (mod-eq-of-lt wide) ∙ go (g i) refl
+    where
+      go : (b : Bool) → g i ≡ b → any (λ k. g k && covers (record { start = k * v; end = (k + 1) * v }) x) N ≡ b
+      go true e = any-intro _ N i inside (ap (λ b. b && covers (record { start = i * v; end = (i + 1) * v }) x) e ∙ here)
+      go false e =
+          any-none _ N (λ k l. none k (ℕ-discrete k i))
+        where
+          none : (k : ℕ) → Dec (k ≡ i) → (g k && covers (record { start = k * v; end = (k + 1) * v }) x) ≡ false
+          none k (yes p) = ap (λ b. b && covers (record { start = k * v; end = (k + 1) * v }) x) (ap g p ∙ e)
+          none k (no p) = ap (λ b. g k && b) (elsewhere k p) ∙ and-false (g k)
+
+-- ---- filling slot by slot
+
+-- Slots 0 to i − 1 are filled: the total stands at i × v, and `seen` of them are free.
+pub record Gridding (l : List ℕ) (v j : ℕ) (t₀ t : List ℕ) (at seen i : ℕ) : Type 0 where
+  pub fits : GridFits l v t₀
+  pub upto : i ≤ length l
+  pub place : at ≡ i * v
+  pub passed : seen ≡ number (freeOf l) i
+  pub total : Upto t at (gridTicks (length l) v (first (freeOf l) j))
+  pub long : length t ≡ length t₀
+
+pub gridding-start : (l : List ℕ) (v j : ℕ) (t : List ℕ) → GridFits l v t → Gridding l v j (set t 0 0) (set t 0 0) 0 0 0
+gridding-start l v j t f =
+    record {
+        fits = record { most = f .most; some = f .some; room = rw (length-set t 0 0) (f .room) }
+        ; upto = omega arith
+        ; place = sym (zero-mul v)
+        ; passed = sym (number-none (freeOf l))
+        ; total = upto-none t _ (omega (arith, f .room))
+        ; long = refl }
+
+module _ (l : List ℕ) (v j : ℕ) (t₀ t : List ℕ) (at seen i : ℕ) (g : Gridding l v j t₀ t at seen i) where
+  pub grid-inside : i < length l → at + v ≤ length l * v
+  grid-inside less =
+      let m : (i + 1) * v ≤ length l * v = mul-le-mul-right v (omega arith) in
+      omega (arith, add-mul i 1 v, one-mul v, g .place)
+
+  pub grid-ramp : i < length l → (step : ℕ) → step ≤ 1 → Ramp t at (at + v) step
+  grid-ramp less step one =
+      let last = grid-inside less in
+      record {
+          order = omega arith
+          ; room = omega (arith, g .fits .room, g .long)
+          ; most = omega (arith, g .fits .most)
+          ; small = upto-small t at _ (g .total)
+          ; one = one }
+
+  pub grid-more :
+      i < length l → (step f : ℕ) (t′ : List ℕ)
+      → step ≡ bit (eqb (getD l i 0) 1 && ltb seen j) → f ≡ bit (eqb (getD l i 0) 1) → Ramped t t′ at (at + v) step
+      → Gridding l v j t₀ t′ (at + v) (seen + f) (i + 1)
+  unfolding first freeOf
+  grid-more less step f t′ p q r =
+      let granted : step ≡ bit (first (freeOf l) j i) =
+          p ∙ ap (λ n. bit (eqb (getD l i 0) 1 && ltb n j)) (g .passed) in
+      record {
+          fits = g .fits
+          ; upto = omega arith
+          ; place = ap (λ n. n + v) (g .place) ∙ sym (add-mul i 1 v ∙ ap (λ n. i * v + n) (one-mul v))
+          ; passed = omega (arith, g .passed, number-more (freeOf l) i)
+          ; total = ramp-total t t′ at (at + v) (first (freeOf l) j i) _ (rw granted at r) (g .total) (omega arith) (λ x low high.
+              grid-tick (length l) v (first (freeOf l) j) i x less (rw (g .place) at low) (rw (g .place) at high))
+          ; long = r .long ∙ g .long }
+
+  pub grid-end :
+      length l ≤ i
+      → (length t ≡ length t₀) × Upto t (length l * v) (gridTicks (length l) v (first (freeOf l) j))
+  grid-end end =
+      let e : at ≡ length l * v = g .place ∙ ap (λ n. n * v) (le-antisymm (g .upto) end) in
+      (g .long, rw e at (g .total))
