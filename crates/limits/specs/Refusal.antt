@@ -7,9 +7,7 @@ use mathlib.Core.Bool.{Bool, true, false}
 use Prim.Native.Nat.{ℕ, zero, suc}
 
 infix 30 _when_
-
 infixr 20 _otherwise_
-
 unfoldable pub _when_ : ℕ → Bool → ℕ
 n when true = n
 n when false = 0

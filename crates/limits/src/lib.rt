@@ -61,6 +61,7 @@ pub fn first(a: u32, b: u32) -> u32
 
 impl Wheel {
     pub const MOST_TICKS: usize = 16384;
+
     pub const MOST_SLOTS: usize = 64;
 
     fn refusal(w: usize) -> u32
@@ -84,15 +85,23 @@ impl Wheel {
 
 impl Task {
     pub const MOST_NEED: usize = 1_000_000;
+
     pub const MOST_PERIOD: usize = 1_000_000;
+
     pub const MOST_STRIPS: usize = 1024;
 
     fn refusal(t: Task) -> u32
         ensures { λ r. ⌜ r ≡ taskRefusalOf t ⌝ }
     {
-        let last = first(when(9, outside(t.k, Task::MOST_STRIPS)), when(10, t.k < t.m));
+        let last = first(
+            when(9, outside(t.k, Task::MOST_STRIPS)),
+            when(10, t.k < t.m),
+        );
         let deadline = first(when(8, outside(t.d, t.h)), last);
-        first(when(6, outside(t.e, Task::MOST_NEED)), first(when(7, outside(t.h, Task::MOST_PERIOD)), deadline))
+        first(
+            when(6, outside(t.e, Task::MOST_NEED)),
+            first(when(7, outside(t.h, Task::MOST_PERIOD)), deadline),
+        )
     }
 
     // The task as it is, or the first of the refusals 6 to 10.

@@ -24,13 +24,14 @@ copied-length d s e i c = ap length (c .list) ∙ length-paste d 0 s i (omega (a
 pub copied-more : (d s e : List ℕ) (i : ℕ) → Copied d s e i → i < length s → Copied d s (set e i (getD s i 0)) (i + 1)
 copied-more d s e i c l =
     record {
-        upto = omega arith
-        ; room = c .room
-        ; list =
-            ap (λ x. set x i (getD s i 0)) (c .list)
-            ∙ ap (λ n. set (paste d 0 s i) n (getD s i 0)) (sym (zero-add i))
-            ∙ paste-suc d 0 s i 0 (omega (arith, c .room)) l
-            ∙ ap (paste d 0 s) (sym (add-one i)) }
+      upto = omega arith;
+      room = c .room;
+      list =
+          ap (λ x. set x i (getD s i 0)) (c .list)
+          ∙ ap (λ n. set (paste d 0 s i) n (getD s i 0)) (sym (zero-add i))
+          ∙ paste-suc d 0 s i 0 (omega (arith, c .room)) l
+          ∙ ap (paste d 0 s) (sym (add-one i));
+    }
 
 pub copied-all : (d s e : List ℕ) (i : ℕ) → Copied d s e i → length s ≤ i → e ≡ over s d
 unfolding over

@@ -27,8 +27,9 @@ one-step f n i l = let e : n - i ≡ suc (n - (i + 1)) = omega arith in ap (λ m
 pub sought-more : (f : Subset) (n i : ℕ) → Sought f n i → i < n → f i ≡ false → Sought f n (i + 1)
 sought-more f n i s l e =
     record {
-        upto = omega arith
-        ; rest = s .rest ∙ one-step f n i l ∙ ap (λ b. cond b i (firstOf f (n - (i + 1)) (i + 1))) e }
+      upto = omega arith;
+      rest = s .rest ∙ one-step f n i l ∙ ap (λ b. cond b i (firstOf f (n - (i + 1)) (i + 1))) e;
+    }
 
 pub sought-hit : (f : Subset) (n i : ℕ) → Sought f n i → i < n → f i ≡ true → i ≡ firstOf f n 0
 sought-hit f n i s l e = sym (s .rest ∙ one-step f n i l ∙ ap (λ b. cond b i (firstOf f (n - (i + 1)) (i + 1))) e)

@@ -29,15 +29,16 @@ replyBytes = 16
 abbrev pub taskRecord : List ℕ → TaskRecord
 taskRecord l =
     record {
-        id = le4 l 0
-        ; w = le4 l 4
-        ; e = le4 l 8
-        ; d = le4 l 12
-        ; h = le4 l 16
-        ; m = le4 l 20
-        ; k = le4 l 24
-        ; first = le2 l 28
-        ; count = le2 l 30 }
+      id = le4 l 0;
+      w = le4 l 4;
+      e = le4 l 8;
+      d = le4 l 12;
+      h = le4 l 16;
+      m = le4 l 20;
+      k = le4 l 24;
+      first = le2 l 28;
+      count = le2 l 30;
+    }
 
 abbrev pub slotOf : code.Slot → Slot
 slotOf s = record { start = s .start; end = s .end }

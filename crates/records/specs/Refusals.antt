@@ -78,10 +78,11 @@ pointRefusal task slots offset =
 abbrev pub jobOf : TaskRecord → Job
 jobOf r =
     record {
-        w = r .w
-        ; first = r .first
-        ; count = r .count
-        ; task = record { e = r .e; d = r .d; h = r .h; m = r .m; k = r .k } }
+      w = r .w;
+      first = r .first;
+      count = r .count;
+      task = record { e = r .e; d = r .d; h = r .h; m = r .m; k = r .k };
+    }
 
 unfoldable pub checked : TaskRecord → List ℕ → Checked
 checked r slots = ifNone (bodyRefusal r slots) (Accepted (jobOf r)) (Refused (bodyRefusal r slots))

@@ -7,7 +7,6 @@ ghost use Rattle.limits.specs.Limits.{wheelRefusal};
 ghost use Rattle.records.specs.Records.{slotBytes, slotOf, slotAt};
 ghost use Rattle.records.specs.Refusals.{slotRefusal, firstBad, slotsRefusal, boardRefusal};
 ghost use lib.Dec.{ltb};
-
 use crate::Slot;
 use crate::TaskRecord;
 use limits::Wheel;
@@ -30,7 +29,10 @@ fn slot_refusal(w: usize, before: usize, s: Slot) -> u32
     ensures { λ r. ⌜ r ≡ slotRefusal w before (slotOf s) ⌝ }
 {
     let late = limits::when(5, s.start < before);
-    limits::first(limits::when(5, s.end <= s.start), limits::first(limits::when(5, w < s.end), late))
+    limits::first(
+        limits::when(5, s.end <= s.start),
+        limits::first(limits::when(5, w < s.end), late),
+    )
 }
 
 // The number of the first bad slot, or 0.

@@ -7,7 +7,6 @@ ghost use mathlib.Core.Path.{_≡_};
 ghost use lib.ListN.{length};
 ghost use Rattle.records.specs.Records.{taskBytes, taskRecord};
 ghost use Rattle.records.specs.Refusals.{sizes, checked};
-
 use limits::Task;
 use limits::TaskMade;
 

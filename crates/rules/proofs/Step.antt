@@ -20,7 +20,7 @@ use Rattle.rules.specs.Supply.{Task, supply, dropped, drops, count}
 use Rattle.rules.specs.Worst.{Wheel}
 use Rattle.rules.specs.Laws.{halfTick, StepOverQ, CountsAdd}
 use Rattle.rules.proofs.Sums.{number-cong, number-split, bit-le}
-use Rattle.rules.proofs.Straight.{straight, supply-up, supply-down}
+use Rattle.rules.proofs.Straight.{straight, supply-tick, supply-up, supply-down}
 
 -- ---- tests
 
@@ -68,10 +68,7 @@ dropped-between u t a s r s+ r+ =
 pub dropped-tick : (q : ℕ) (u : Subset) (t : Task) (a : ℕ) → 0 < q → dropped q u t (q * a) ≡ dropped 1 u t a
 unfolding dropped
 dropped-tick q u t a pos =
-    let line : supply q u (t .D) (q * a) ≡ q * supply 1 u (t .D) a =
-    let l = straight u (t .D) a q 0 pos in
-    rw (add-zero, add-zero, zero-mul, add-zero) at l in
-    rw (line, one-mul)
+    rw (supply-tick q u (t .D) a pos, one-mul)
     (ltb-same _ _ _ _ (lt-of-mul-lt-mul-left q) (λ l. mul-lt-mul-of-pos-left l pos))
 
 pub dropped-even : (u : Subset) (t : Task) (a : ℕ) → dropped 2 u t (2 * a) ≡ dropped 1 u t a

@@ -5,7 +5,7 @@
 use mathlib.Core.Path.{_≡_, refl, sym, ap, _∙_}
 use mathlib.Core.Bool.{Bool}
 use Prim.Native.Nat.{ℕ, zero, suc, _+_, _*_, _/_, _≤_, _<_}
-use native.Mathlib.Nat.{add-zero, add-suc, add-assoc, mul-zero, mul-suc, mul-add, one-mul, div-one, div-eq-of-lt, mul-add-div}
+use native.Mathlib.Nat.{add-zero, add-suc, add-assoc, zero-mul, mul-zero, mul-suc, mul-add, one-mul, div-one, div-eq-of-lt, mul-add-div}
 use native.Mathlib.Numerals.{add-one}
 use native.Mathlib.Omega.{arith}
 use Rattle.rules.specs.Sums.{Subset, bit, number}
@@ -100,3 +100,9 @@ pub straight : Straight
 straight u zero a s r pos =
     rw (supply-empty (s + r) u ((s + r) * a + r), supply-empty 1 u a, supply-empty 1 u (a + 1)) (omega arith)
 straight u (suc D) a s r pos = rw (← add-one D) (straight-step u D a s r pos (straight u D a s r pos))
+
+-- At a whole tick supply is q times that in ticks.
+pub supply-tick : (q : ℕ) (u : Subset) (D a : ℕ) → 0 < q → supply q u D (q * a) ≡ q * supply 1 u D a
+supply-tick q u D a pos =
+    let l = straight u D a q 0 pos in
+    rw (add-zero, add-zero, zero-mul, add-zero) at l

@@ -58,11 +58,11 @@ module _ (N v : ℕ) (g : Subset) (i x : ℕ) (inside : i < N) (low : i * v ≤ 
   elsewhere k n =
       ⊎-elim
       (λ (below : k + 1 ≤ i).
-          let m : (k + 1) * v ≤ i * v = mul-le-mul-right v below in
-          ap (λ b. leb (k * v) x && b) (le-ltb x ((k + 1) * v) (omega arith)) ∙ and-false (leb (k * v) x))
+      let m : (k + 1) * v ≤ i * v = mul-le-mul-right v below in
+      ap (λ b. leb (k * v) x && b) (le-ltb x ((k + 1) * v) (omega arith)) ∙ and-false (leb (k * v) x))
       (λ (above : i < k + 1).
-          let m : (i + 1) * v ≤ k * v = mul-le-mul-right v (omega arith) in
-          ap (λ b. b && ltb x ((k + 1) * v)) (lt-leb (k * v) x (omega (arith, next i))))
+      let m : (i + 1) * v ≤ k * v = mul-le-mul-right v (omega arith) in
+      ap (λ b. b && ltb x ((k + 1) * v)) (lt-leb (k * v) x (omega (arith, next i))))
       (le-or-lt (k + 1) i)
 
   here : covers (record { start = i * v; end = (i + 1) * v }) x ≡ true
@@ -98,12 +98,13 @@ pub record Gridding (l : List ℕ) (v j : ℕ) (t₀ t : List ℕ) (at seen i : 
 pub gridding-start : (l : List ℕ) (v j : ℕ) (t : List ℕ) → GridFits l v t → Gridding l v j (set t 0 0) (set t 0 0) 0 0 0
 gridding-start l v j t f =
     record {
-        fits = record { most = f .most; some = f .some; room = rw (length-set t 0 0) (f .room) }
-        ; upto = omega arith
-        ; place = sym (zero-mul v)
-        ; passed = sym (number-none (freeOf l))
-        ; total = upto-none t _ (omega (arith, f .room))
-        ; long = refl }
+      fits = record { most = f .most; some = f .some; room = rw (length-set t 0 0) (f .room) };
+      upto = omega arith;
+      place = sym (zero-mul v);
+      passed = sym (number-none (freeOf l));
+      total = upto-none t _ (omega (arith, f .room));
+      long = refl;
+    }
 
 module _ (l : List ℕ) (v j : ℕ) (t₀ t : List ℕ) (at seen i : ℕ) (g : Gridding l v j t₀ t at seen i) where
   pub grid-inside : i < length l → at + v ≤ length l * v
@@ -115,11 +116,12 @@ module _ (l : List ℕ) (v j : ℕ) (t₀ t : List ℕ) (at seen i : ℕ) (g : G
   grid-ramp less step one =
       let last = grid-inside less in
       record {
-          order = omega arith
-          ; room = omega (arith, g .fits .room, g .long)
-          ; most = omega (arith, g .fits .most)
-          ; small = upto-small t at _ (g .total)
-          ; one = one }
+        order = omega arith;
+        room = omega (arith, g .fits .room, g .long);
+        most = omega (arith, g .fits .most);
+        small = upto-small t at _ (g .total);
+        one = one;
+      }
 
   pub grid-more :
       i < length l → (step f : ℕ) (t′ : List ℕ)
@@ -128,15 +130,16 @@ module _ (l : List ℕ) (v j : ℕ) (t₀ t : List ℕ) (at seen i : ℕ) (g : G
   unfolding first freeOf
   grid-more less step f t′ p q r =
       let granted : step ≡ bit (first (freeOf l) j i) =
-          p ∙ ap (λ n. bit (eqb (getD l i 0) 1 && ltb n j)) (g .passed) in
+      p ∙ ap (λ n. bit (eqb (getD l i 0) 1 && ltb n j)) (g .passed) in
       record {
-          fits = g .fits
-          ; upto = omega arith
-          ; place = ap (λ n. n + v) (g .place) ∙ sym (add-mul i 1 v ∙ ap (λ n. i * v + n) (one-mul v))
-          ; passed = omega (arith, g .passed, number-more (freeOf l) i)
-          ; total = ramp-total t t′ at (at + v) (first (freeOf l) j i) _ (rw granted at r) (g .total) (omega arith) (λ x low high.
-              grid-tick (length l) v (first (freeOf l) j) i x less (rw (g .place) at low) (rw (g .place) at high))
-          ; long = r .long ∙ g .long }
+        fits = g .fits;
+        upto = omega arith;
+        place = ap (λ n. n + v) (g .place) ∙ sym (add-mul i 1 v ∙ ap (λ n. i * v + n) (one-mul v));
+        passed = omega (arith, g .passed, number-more (freeOf l) i);
+        total = ramp-total t t′ at (at + v) (first (freeOf l) j i) _ (rw granted at r) (g .total) (omega arith) (λ x low high.
+            grid-tick (length l) v (first (freeOf l) j) i x less (rw (g .place) at low) (rw (g .place) at high));
+        long = r .long ∙ g .long;
+      }
 
   pub grid-end :
       length l ≤ i

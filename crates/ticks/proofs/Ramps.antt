@@ -25,14 +25,16 @@ pub climb-start : (l : List ℕ) (from to step : ℕ) → Ramp l from to step �
 climb-start l from to step r =
     let none : step * (from - from) ≡ 0 = ap (λ n. step * n) (sub-self from) ∙ mul-zero step in
     record {
-        handed = r
-        ; low = omega arith
-        ; high = r .order
-        ; top = omega arith
-        ; done = record {
-            long = refl
-            ; kept = λ x le. refl
-            ; run = λ x a b. let e : x ≡ from = le-antisymm b a in rw e (omega arith) } }
+      handed = r;
+      low = omega arith;
+      high = r .order;
+      top = omega arith;
+      done = record {
+        long = refl;
+        kept = λ x le. refl;
+        run = λ x a b. let e : x ≡ from = le-antisymm b a in rw e (omega arith);
+      };
+    }
 
 -- The total at a place is at most the place.
 pub climb-small : (l l′ : List ℕ) (from to step sum x : ℕ) → Climbing l l′ from to step sum x → sum ≤ x
@@ -47,21 +49,23 @@ climb-more l l′ from to step sum x c less =
     let a : from ≤ x = c .low in
     let e : x + 1 - from ≡ x - from + 1 = omega arith in
     let next : step * (x + 1 - from) ≡ step * (x - from) + step =
-        ap (λ n. step * n) e ∙ mul-add step (x - from) 1 ∙ ap (λ n. step * (x - from) + n) (mul-one step) in
+    ap (λ n. step * n) e ∙ mul-add step (x - from) 1 ∙ ap (λ n. step * (x - from) + n) (mul-one step) in
     let top′ : sum + step ≡ getD l from 0 + step * (x + 1 - from) = omega (arith, c .top) in
     let inside : x + 1 < length l′ = omega (arith, c .done .long, c .handed .room) in
     record {
-        handed = c .handed
-        ; low = omega arith
-        ; high = omega arith
-        ; top = top′
-        ; done = record {
-            long = length-set l′ (x + 1) (sum + step) ∙ c .done .long
-            ; kept = λ y le. getD-set-other l′ (x + 1) y (sum + step) 0 (λ z. omega arith) ∙ c .done .kept y le
-            ; run = λ y lo hi. ⊎-elim
-                (λ (q : y ≡ x + 1). rw q (getD-set-same l′ (x + 1) (sum + step) 0 inside ∙ top′))
-                (λ m. getD-set-other l′ (x + 1) y (sum + step) 0 (λ z. omega arith) ∙ c .done .run y lo (omega arith))
-                (eq-or-lt-of-le hi) } }
+      handed = c .handed;
+      low = omega arith;
+      high = omega arith;
+      top = top′;
+      done = record {
+        long = length-set l′ (x + 1) (sum + step) ∙ c .done .long;
+        kept = λ y le. getD-set-other l′ (x + 1) y (sum + step) 0 (λ z. omega arith) ∙ c .done .kept y le;
+        run = λ y lo hi. ⊎-elim
+            (λ (q : y ≡ x + 1). rw q (getD-set-same l′ (x + 1) (sum + step) 0 inside ∙ top′))
+            (λ m. getD-set-other l′ (x + 1) y (sum + step) 0 (λ z. omega arith) ∙ c .done .run y lo (omega arith))
+            (eq-or-lt-of-le hi);
+      };
+    }
 
 pub climb-end : (l l′ : List ℕ) (from to step sum x : ℕ) → Climbing l l′ from to step sum x → to ≤ x → Ramped l l′ from to step
 climb-end l l′ from to step sum x c end = let e : x ≡ to = le-antisymm (c .high) end in rw e at (c .done)
@@ -76,10 +80,10 @@ ramp-total l l′ from to b u r upto order alike = record { at = go }
     go x hi = ⊎-elim
         (λ (le : x ≤ from). r .kept x le ∙ upto .at x le)
         (λ (gt : from < x).
-            let e : from + (x - from) ≡ x = omega arith in
-            let more : number (λ i. u (from + i)) (x - from) ≡ (x - from) * bit b =
-                number-const _ b (x - from) (λ i l. alike (from + i) (omega arith) (omega arith)) in
-            let split = number-split u from (x - from) in
-            let here : number u (from + (x - from)) ≡ number u x = ap (number u) e in
-            omega (arith, r .run x (omega arith) hi, upto .at from (omega arith), mul-comm (x - from) (bit b)))
+        let e : from + (x - from) ≡ x = omega arith in
+        let more : number (λ i. u (from + i)) (x - from) ≡ (x - from) * bit b =
+        number-const _ b (x - from) (λ i l. alike (from + i) (omega arith) (omega arith)) in
+        let split = number-split u from (x - from) in
+        let here : number u (from + (x - from)) ≡ number u x = ap (number u) e in
+        omega (arith, r .run x (omega arith) hi, upto .at from (omega arith), mul-comm (x - from) (bit b)))
         (le-or-lt x from)

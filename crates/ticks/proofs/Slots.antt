@@ -35,9 +35,10 @@ good-of w b s e =
     let p = both-none _ _ e in
     let q = both-none _ _ (p .1) in
     record {
-        long = leb-false _ _ (when-none 5 _ (zero-lt-suc 4) (p .0))
-        ; inside = ltb-false _ _ (when-none 5 _ (zero-lt-suc 4) (q .0))
-        ; after = ltb-false _ _ (when-none 5 _ (zero-lt-suc 4) (q .1)) }
+      long = leb-false _ _ (when-none 5 _ (zero-lt-suc 4) (p .0));
+      inside = ltb-false _ _ (when-none 5 _ (zero-lt-suc 4) (q .0));
+      after = ltb-false _ _ (when-none 5 _ (zero-lt-suc 4) (q .1));
+    }
 
 -- Every slot of a table that isn't refused is good.
 pub good-slot : (w : ℕ) (slot : ℕ → Slot) (n i : ℕ) → firstBad w slot n ≡ 0 → i < n → Good w (endBefore slot i) (slot i)
@@ -84,11 +85,11 @@ module _ (w : ℕ) (slot : ℕ → Slot) (n : ℕ) (e : firstBad w slot n ≡ 0)
   unfolding covers endBefore
   behind-x i x l high j m k =
       let starts : slot i .start ≤ slot j .start = ⊎-elim
-          (λ (q : i ≡ j). rw q (le-refl _))
-          (λ (q : i < j).
-              let later = ends-order (suc i) j q (omega arith) in
-              omega (arith, good-slot w slot n i e l .long, later, good-slot w slot n j e k .after))
-          (eq-or-lt-of-le m) in
+      (λ (q : i ≡ j). rw q (le-refl _))
+      (λ (q : i < j).
+      let later = ends-order (suc i) j q (omega arith) in
+      omega (arith, good-slot w slot n i e l .long, later, good-slot w slot n j e k .after))
+      (eq-or-lt-of-le m) in
       ap (λ b. b && ltb x (slot j .end)) (lt-leb (slot j .start) x (omega arith))
 
   abbrev pub board : Table
@@ -102,9 +103,9 @@ module _ (w : ℕ) (slot : ℕ → Slot) (n : ℕ) (e : firstBad w slot n ≡ 0)
       any-none _ n (λ j k.
       ap (covers (slot j)) (mod-eq-of-lt wide)
       ∙ ⊎-elim
-          (λ (q : i ≤ j). behind-x i x (omega arith) (high (omega arith)) j q k)
-          (λ (q : j < i). before-x i x l low j q)
-          (le-or-lt i j))
+      (λ (q : i ≤ j). behind-x i x (omega arith) (high (omega arith)) j q k)
+      (λ (q : j < i). before-x i x l low j q)
+      (le-or-lt i j))
 
   pub slot-ticks : (i x : ℕ) → i < n → slot i .start ≤ x → x < slot i .end → usable w board x ≡ true
   unfolding usable covers
@@ -121,9 +122,11 @@ upto-small l m u t = omega (arith, t .at m (le-refl m), number-le u m)
 
 pub upto-none : (l : List ℕ) (u : Subset) → 0 < length l → Upto (set l 0 0) 0 u
 upto-none l u pos =
-    record { at = λ x le.
-        let q : x ≡ 0 = omega arith in
-        rw q (getD-set-same l 0 0 0 pos ∙ sym (number-none u)) }
+    record {
+      at = λ x le.
+          let q : x ≡ 0 = omega arith in
+          rw q (getD-set-same l 0 0 0 pos ∙ sym (number-none u));
+    }
 
 -- ---- filling slot by slot
 
@@ -144,14 +147,15 @@ pub filling-start :
 unfolding endBefore
 filling-start w slot n l good some most room =
     record {
-        good = good
-        ; some = some
-        ; most = most
-        ; room = rw (length-set l 0 0) room
-        ; upto = omega arith
-        ; ends = refl
-        ; total = upto-none l _ (omega arith)
-        ; long = refl }
+      good = good;
+      some = some;
+      most = most;
+      room = rw (length-set l 0 0) room;
+      upto = omega arith;
+      ends = refl;
+      total = upto-none l _ (omega arith);
+      long = refl;
+    }
 
 -- A table's own slot s is its slot i.
 module _ (w : ℕ) (slot : ℕ → Slot) (n : ℕ) (l₀ l : List ℕ) (at i : ℕ) (f : Filling w slot n l₀ l at i) where
@@ -162,11 +166,12 @@ module _ (w : ℕ) (slot : ℕ → Slot) (n : ℕ) (l₀ l : List ℕ) (at i : �
     pub gap-ramp : Ramp l at (s .start) 0
     gap-ramp =
         record {
-            order = good .after
-            ; room = omega (arith, good .long, good .inside, f .room, f .long)
-            ; most = omega (arith, good .long, good .inside, f .most)
-            ; small = upto-small l at _ (f .total)
-            ; one = omega arith }
+          order = good .after;
+          room = omega (arith, good .long, good .inside, f .room, f .long);
+          most = omega (arith, good .long, good .inside, f .most);
+          small = upto-small l at _ (f .total);
+          one = omega arith;
+        }
 
     gap-done : (l′ : List ℕ) → Ramped l l′ at (s .start) 0 → Upto l′ (s .start) (usable w (board w slot n (f .good)))
     unfolding bit
@@ -178,11 +183,12 @@ module _ (w : ℕ) (slot : ℕ → Slot) (n : ℕ) (l₀ l : List ℕ) (at i : �
     pub slot-ramp : (l′ : List ℕ) → Ramped l l′ at (s .start) 0 → Ramp l′ (s .start) (s .end) 1
     slot-ramp l′ r =
         record {
-            order = omega (arith, good .long)
-            ; room = omega (arith, good .inside, f .room, f .long, r .long)
-            ; most = omega (arith, good .inside, f .most)
-            ; small = upto-small l′ (s .start) _ (gap-done l′ r)
-            ; one = omega arith }
+          order = omega (arith, good .long);
+          room = omega (arith, good .inside, f .room, f .long, r .long);
+          most = omega (arith, good .inside, f .most);
+          small = upto-small l′ (s .start) _ (gap-done l′ r);
+          one = omega arith;
+        }
 
     pub slot-done :
         (l′ l″ : List ℕ) → Ramped l l′ at (s .start) 0 → Ramped l′ l″ (s .start) (s .end) 1
@@ -190,30 +196,33 @@ module _ (w : ℕ) (slot : ℕ → Slot) (n : ℕ) (l₀ l : List ℕ) (at i : �
     unfolding bit endBefore
     slot-done l′ l″ r r′ =
         record {
-            good = f .good
-            ; some = f .some
-            ; most = f .most
-            ; room = f .room
-            ; upto = omega arith
-            ; ends = ap (λ (x : Slot). x .end) q ∙ ap (endBefore slot) (sym (add-one i))
-            ; total = ramp-total l′ l″ (s .start) (s .end) true _ r′ (gap-done l′ r) (omega (arith, good .long)) (λ x low high.
-                slot-ticks w slot n (f .good) i x less (rw q at low) (rw q at high))
-            ; long = r′ .long ∙ r .long ∙ f .long }
+          good = f .good;
+          some = f .some;
+          most = f .most;
+          room = f .room;
+          upto = omega arith;
+          ends = ap (λ (x : Slot). x .end) q ∙ ap (endBefore slot) (sym (add-one i));
+          total = ramp-total l′ l″ (s .start) (s .end) true _ r′ (gap-done l′ r) (omega (arith, good .long)) (λ x low high.
+              slot-ticks w slot n (f .good) i x less (rw q at low) (rw q at high));
+          long = r′ .long ∙ r .long ∙ f .long;
+        }
 
   pub last-ramp : n ≤ i → Ramp l at w 0
   last-ramp end =
       record {
-          order = rw (f .ends) (end-inside w slot n (f .good) i (f .upto))
-          ; room = omega (arith, f .room, f .long)
-          ; most = f .most
-          ; small = upto-small l at _ (f .total)
-          ; one = omega arith }
+        order = rw (f .ends) (end-inside w slot n (f .good) i (f .upto));
+        room = omega (arith, f .room, f .long);
+        most = f .most;
+        small = upto-small l at _ (f .total);
+        one = omega arith;
+      }
 
   pub last-done :
       n ≤ i → (l′ : List ℕ) → Ramped l l′ at w 0
       → (length l′ ≡ length l₀) × Upto l′ w (usable w (record { size = n; slot = slot; ours = λ _. true }))
   unfolding bit
-  last-done end l′ r =
-      (r .long ∙ f .long
-      , ramp-total l l′ at w false _ r (f .total) (last-ramp end .order) (λ x low high.
-          gap-ticks w slot n (f .good) i x (f .upto) (rw (f .ends) at low) high (λ m. absurd (omega arith))))
+  last-done end l′ r = (
+    r .long ∙ f .long,
+    ramp-total l l′ at w false _ r (f .total) (last-ramp end .order) (λ x low high.
+        gap-ticks w slot n (f .good) i x (f .upto) (rw (f .ends) at low) high (λ m. absurd (omega arith))),
+  )

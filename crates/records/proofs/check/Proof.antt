@@ -35,10 +35,11 @@ returns-3 : tie.Need-returns-3
 unfolding checked bodyRefusal taskRefusalOf
 returns-3 c = let r = task-made _ _ (sym (c .before .before .before .new .ensures) ∙ c .before .task .given .1) in
     ap Accepted (λ i. record {
-        w = c .before .before .before .before .before .before .before .args .r .w
-        ; first = c .before .before .before .before .before .before .before .args .r .first
-        ; count = c .before .before .before .before .before .before .before .args .r .count
-        ; task = r .1 i })
+      w = c .before .before .before .before .before .before .before .args .r .w;
+      first = c .before .before .before .before .before .before .before .args .r .first;
+      count = c .before .before .before .before .before .before .before .args .r .count;
+      task = r .1 i;
+    })
     ∙ sym (none-left _ _ _
     (sym (at-next _ _ _ (sym (c .before .before .before .before .before .refusal .ensures) ∙ c .before .before .before .before .if1 .left) (sym (r .0)))))
 

@@ -33,15 +33,16 @@ two-requires-2 c κs = search needs
 
 returns : tie.Need-returns
 returns c = λ i. record {
-        id = c .before .before .before .before .before .before .before .before .four .ensures i
-        ; w = c .before .before .before .before .before .before .before .four2 .ensures i
-        ; e = c .before .before .before .before .before .before .four3 .ensures i
-        ; d = c .before .before .before .before .before .four4 .ensures i
-        ; h = c .before .before .before .before .four5 .ensures i
-        ; m = c .before .before .before .four6 .ensures i
-        ; k = c .before .before .four7 .ensures i
-        ; first = c .before .two .ensures i
-        ; count = c .two2 .ensures i }
+  id = c .before .before .before .before .before .before .before .before .four .ensures i;
+  w = c .before .before .before .before .before .before .before .four2 .ensures i;
+  e = c .before .before .before .before .before .before .four3 .ensures i;
+  d = c .before .before .before .before .before .four4 .ensures i;
+  h = c .before .before .before .before .four5 .ensures i;
+  m = c .before .before .before .four6 .ensures i;
+  k = c .before .before .four7 .ensures i;
+  first = c .before .two .ensures i;
+  count = c .two2 .ensures i;
+}
 
 pub read-spec : {M : Type 1} → statement M
 read-spec =

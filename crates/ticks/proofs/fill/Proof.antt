@@ -39,11 +39,13 @@ loop-less : tie.Need-loop-less Inv-loop μ-loop
 loop-less c = omega arith
 
 loop-again : tie.Need-loop-again Inv-loop μ-loop
-loop-again c = (c .before .before .before .before .before .before .before .before .before .before .loop .inv .0
-    , slot-done _ _ _ _ _ _ _ (c .before .before .before .before .before .before .before .before .before .before .loop .inv .1) _
-    (c .before .before .before .before .before .before .before .before .slot-at .ensures)
-    (c .before .before .before .before .before .before .before .before .before .loop-test .taken)
-    _ _ (c .before .before .before .before .before .before .ramp .ensures) (c .before .before .ramp2 .ensures))
+loop-again c = (
+  c .before .before .before .before .before .before .before .before .before .before .loop .inv .0,
+  slot-done _ _ _ _ _ _ _ (c .before .before .before .before .before .before .before .before .before .before .loop .inv .1) _
+      (c .before .before .before .before .before .before .before .before .slot-at .ensures)
+      (c .before .before .before .before .before .before .before .before .before .loop-test .taken)
+      _ _ (c .before .before .before .before .before .before .ramp .ensures) (c .before .before .ramp2 .ensures),
+)
 
 ramp-requires-3 : tie.Need-ramp-requires-3 Inv-loop μ-loop
 ramp-requires-3 c κs = last-ramp _ _ _ _ _ _ _ (c .before .before .loop .inv .1) (c .before .loop-test .left)
@@ -53,7 +55,7 @@ same-length c = last-done _ _ _ _ _ _ _ (c .before .before .before .before .befo
 
 returns : tie.Need-returns Inv-loop μ-loop
 returns c = let done = last-done _ _ _ _ _ _ _ (c .before .before .before .before .before .loop .inv .1)
-        (c .before .before .before .before .loop-test .left) _ (c .before .before .ramp3 .ensures) in
+    (c .before .before .before .before .loop-test .left) _ (c .before .before .ramp3 .ensures) in
     (done .0 ∙ length-set (c .before .before .before .before .before .before .before .before .args .total .now) 0 0, done .1)
 
 pub fill-spec : {M : Type 1} → statement M

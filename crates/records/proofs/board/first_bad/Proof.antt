@@ -37,10 +37,12 @@ loop-less : tie.Need-loop-less Inv-loop μ-loop
 loop-less c = omega arith
 
 loop-again : tie.Need-loop-again Inv-loop μ-loop
-loop-again c = (c .before .before .before .before .loop .inv .0
-    , rw (sym (ap (λ (s : Slot). s .end) (c .before .before .slot-at .ensures))) at
-        (passed-more _ _ _ _ _ (c .before .before .before .before .loop .inv .1) (omega arith)
-        (ap (slotRefusal _ _) (sym (c .before .before .slot-at .ensures)) ∙ sym (c .before .slot-refusal .ensures) ∙ c .if1 .left)))
+loop-again c = (
+  c .before .before .before .before .loop .inv .0,
+  rw (sym (ap (λ (s : Slot). s .end) (c .before .before .slot-at .ensures))) at
+      (passed-more _ _ _ _ _ (c .before .before .before .before .loop .inv .1) (omega arith)
+      (ap (slotRefusal _ _) (sym (c .before .before .slot-at .ensures)) ∙ sym (c .before .slot-refusal .ensures) ∙ c .if1 .left)),
+)
 
 returns-2 : tie.Need-returns-2 Inv-loop μ-loop
 returns-2 c = passed-all _ _ _ _ _ (c .before .loop .inv .1) (omega arith)

@@ -1,0 +1,3 @@
+pub mod Windows
+pub mod Halves
+pub mod Maps
