@@ -39,7 +39,7 @@ pub half-odd :
     → (x % 2 ≡ 0 → ⊥) → s + s′ ≡ supply 2 u d x
 half-odd w u wheel d x s s′ e f odd =
     let both : s + s′ ≡ 1 * supply 1 u d (x / 2) + 1 * supply 1 u d (x / 2 + 1) =
-        omega (arith, f ∙ supply-wrap w u wheel d (x / 2 + 1)) in
+    omega (arith, f ∙ supply-wrap w u wheel d (x / 2 + 1)) in
     let whole : 2 * (x / 2) + 1 ≡ x = omega arith in
     both ∙ sym (straight u d (x / 2) 1 1 (omega arith)) ∙ ap (supply 2 u d) whole
 
@@ -73,12 +73,13 @@ pub counting-more :
 unfolding drops
 counting-more l w x n t c i d k less one at =
     record {
-        upto = omega arith
-        ; few = omega (arith, k .few)
-        ; counted = λ u wheel upto.
-            let here : d ≡ bit (dropped 2 u (asked t) (x + i * (2 * t .h))) =
-                at u wheel upto ∙ ap bit (sym (dropped-mod w u wheel 2 (asked t) (x + i * (2 * t .h)) (omega arith))) in
-            omega (arith, k .counted u wheel upto, number-more (λ j. dropped 2 u (asked t) (x + j * (2 * t .h))) i) }
+      upto = omega arith;
+      few = omega (arith, k .few);
+      counted = λ u wheel upto.
+          let here : d ≡ bit (dropped 2 u (asked t) (x + i * (2 * t .h))) =
+          at u wheel upto ∙ ap bit (sym (dropped-mod w u wheel 2 (asked t) (x + i * (2 * t .h)) (omega arith))) in
+          omega (arith, k .counted u wheel upto, number-more (λ j. dropped 2 u (asked t) (x + j * (2 * t .h))) i);
+    }
 
 pub counting-all :
     (l : List ℕ) (w x n : ℕ) (t : Task) (c i : ℕ) → Counting l w x n t c i → n ≤ i

@@ -33,10 +33,11 @@ pub record Filling (f : ℕ → ℕ) (from to : ℕ) (m m′ : List ℕ) (a : �
 pub filling-none : (f : ℕ → ℕ) (from to : ℕ) (m : List ℕ) → from ≤ to → to ≤ length m → Filling f from to m m from
 filling-none f from to m order room =
     record {
-        low = omega arith
-        ; high = order
-        ; room = room
-        ; filled = record { long = refl; kept = λ i l. refl; done = λ i low high. absurd (omega arith) } }
+      low = omega arith;
+      high = order;
+      room = room;
+      filled = record { long = refl; kept = λ i l. refl; done = λ i low high. absurd (omega arith) };
+    }
 
 pub filling-more :
     (f : ℕ → ℕ) (from to : ℕ) (m m′ : List ℕ) (a v : ℕ) → Filling f from to m m′ a → a < to → v ≡ f a
@@ -44,18 +45,20 @@ pub filling-more :
 filling-more f from to m m′ a v g less e =
     let inside : a < length m′ = omega (arith, g .room, g .filled .long) in
     record {
-        low = omega (arith, g .low)
-        ; high = omega arith
-        ; room = g .room
-        ; filled = record {
-            long = length-set m′ a v ∙ g .filled .long
-            ; kept = λ i l. getD-set-other m′ a i v 0 (λ z. omega (arith, g .low)) ∙ g .filled .kept i l
-            ; done = λ i low high. ⊎-elim
-                (λ (q : i + 1 ≡ a + 1).
-                    let p : i ≡ a = omega arith in
-                    rw p (getD-set-same m′ a v 0 inside ∙ e))
-                (λ n. getD-set-other m′ a i v 0 (λ z. omega arith) ∙ g .filled .done i low (omega arith))
-                (eq-or-lt-of-le (up i high)) } }
+      low = omega (arith, g .low);
+      high = omega arith;
+      room = g .room;
+      filled = record {
+        long = length-set m′ a v ∙ g .filled .long;
+        kept = λ i l. getD-set-other m′ a i v 0 (λ z. omega (arith, g .low)) ∙ g .filled .kept i l;
+        done = λ i low high. ⊎-elim
+            (λ (q : i + 1 ≡ a + 1).
+            let p : i ≡ a = omega arith in
+            rw p (getD-set-same m′ a v 0 inside ∙ e))
+            (λ n. getD-set-other m′ a i v 0 (λ z. omega arith) ∙ g .filled .done i low (omega arith))
+            (eq-or-lt-of-le (up i high));
+      };
+    }
   where
     up : (i : ℕ) → i < a + 1 → i + 1 ≤ a + 1
     up i l = omega arith
@@ -102,23 +105,26 @@ pub whole-map :
     → Filled (λ a. bit (ltb (getD l w 0 - getD l a 0 + getD l (a - (w - t .d % w)) 0) need)) (w - t .d % w) w m′ m″
     → (length m″ ≡ w) × ((u : Subset) → Wheel w u → Upto l w u → Late m″ u (asked t))
 unfolding dropped
-whole-map l m m′ m″ w t turned need total long p q before behind =
-    (behind .long ∙ before .long ∙ long
-    , λ u wheel upto. record { at = λ a less.
+whole-map l m m′ m″ w t turned need total long p q before behind = (
+  behind .long ∙ before .long ∙ long,
+  λ u wheel upto. record {
+    at = λ a less.
         let r : ℕ = t .d % w in
         let short : r < w = mod-lt (t .d) (wheel .some) in
         let inside : a < w = omega (arith, behind .long, before .long) in
         let drop : (s x : ℕ) → s ≡ bit (ltb x need) → x ≡ supply 1 u r a → s ≡ bit (ltb (supply 1 u (t .d) a) (1 * t .e)) =
-            λ s x e f.
-            e ∙ ap (λ n. bit (ltb x n)) q
-            ∙ ap bit (need-same turned r (t .e) x (rw f (supply-le u r a)))
-            ∙ ap (λ n. bit (ltb n (1 * t .e))) (window-split l w u wheel upto a (t .d) turned x p f) in
+        λ s x e f.
+        e ∙ ap (λ n. bit (ltb x n)) q
+        ∙ ap bit (need-same turned r (t .e) x (rw f (supply-le u r a)))
+        ∙ ap (λ n. bit (ltb n (1 * t .e))) (window-split l w u wheel upto a (t .d) turned x p f) in
         ⊎-elim
         (λ (over : w - r ≤ a).
-            let e : a - (w - r) ≡ a + r - w = omega arith in
-            drop _ _ (behind .done a over inside)
-            (rest-over l w u wheel upto a r _ _ _ inside short (omega arith) refl refl (ap (λ n. getD l n 0) e)))
+        let e : a - (w - r) ≡ a + r - w = omega arith in
+        drop _ _ (behind .done a over inside)
+        (rest-over l w u wheel upto a r _ _ _ inside short (omega arith) refl refl (ap (λ n. getD l n 0) e)))
         (λ (on : a < w - r).
-            drop _ _ (behind .kept a on ∙ before .done a (omega arith) on)
-            (rest-inside l w u wheel upto a r _ _ (omega arith) refl refl))
-        (le-or-lt (w - r) a) })
+        drop _ _ (behind .kept a on ∙ before .done a (omega arith) on)
+        (rest-inside l w u wheel upto a r _ _ (omega arith) refl refl))
+        (le-or-lt (w - r) a);
+  },
+)

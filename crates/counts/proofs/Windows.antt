@@ -28,7 +28,7 @@ module _ (l : List ℕ) (w : ℕ) (t : Total l w) where
   total-slow x y a b =
       let e : x + (y - x) ≡ y = omega arith in
       let s : number (t .ticks) y ≡ number (t .ticks) x + number (λ i. t .ticks (x + i)) (y - x) =
-          ap (number (t .ticks)) (sym e) ∙ number-split (t .ticks) x (y - x) in
+      ap (number (t .ticks)) (sym e) ∙ number-split (t .ticks) x (y - x) in
       omega (arith, t .upto .at x (omega arith), t .upto .at y b, number-le (λ i. t .ticks (x + i)) (y - x))
 
   pub turned-le : (d : ℕ) → d / w * getD l w 0 ≤ d
@@ -45,7 +45,7 @@ module _ (l : List ℕ) (w : ℕ) (u : Subset) (wheel : Wheel w u) (upto : Upto 
   window-split a d turns rest p q =
       let e : a + d ≡ a + d % w + d / w * w = omega (arith, div-add-mod d w, mul-comm w (d / w)) in
       let far : number u (a + d) ≡ number u (a + d % w) + d / w * number u w =
-          ap (number u) e ∙ whole-turns w u wheel (d / w) (a + d % w) in
+      ap (number u) e ∙ whole-turns w u wheel (d / w) (a + d % w) in
       let turned : d / w * getD l w 0 ≡ d / w * number u w = ap (λ n. d / w * n) (upto .at w (le-refl w)) in
       omega (arith, windows u d a, windows u (d % w) a)
 
@@ -60,7 +60,7 @@ module _ (l : List ℕ) (w : ℕ) (u : Subset) (wheel : Wheel w u) (upto : Upto 
   rest-over a r full gone end less short over p q e =
       let back : a + r ≡ a + r - w + 1 * w = omega arith in
       let once : number u (a + r) ≡ number u (a + r - w) + 1 * number u w =
-          ap (number u) back ∙ whole-turns w u wheel 1 (a + r - w) in
+      ap (number u) back ∙ whole-turns w u wheel 1 (a + r - w) in
       omega (arith, windows u r a, upto .at w (le-refl w), upto .at a (omega arith), upto .at (a + r - w) (omega arith), number-longer u a w (omega arith))
 
 -- What is the supply of every wheel with that total is at most the window.

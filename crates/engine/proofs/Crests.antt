@@ -1,11 +1,11 @@
 -- Laws of the search for the first largest entry: in a block, from block to block, and in the block that has it.
 --
 -- In order: a block; blocks; the place; the crest of the counts. Assumes nothing.
-use mathlib.Core.Path.{_≡_, refl, sym, ap, _∙_}
+use mathlib.Core.Path.{_≡_, refl, sym, _∙_}
 use mathlib.Core.Logic.{_⊎_, ⊎-elim}
 use mathlib.Core.List.{List}
-use Prim.Native.Nat.{ℕ, _+_, _≤_, _<_}
-use native.Mathlib.Nat.{le-refl, le-of-suc-le-suc, eq-or-lt-of-le}
+use Prim.Native.Nat.{ℕ, _+_, _%_, _≤_, _<_}
+use native.Mathlib.Nat.{le-refl, le-of-suc-le-suc, eq-or-lt-of-le, mod-lt}
 use native.Mathlib.Numerals.{add-one}
 use native.Mathlib.Omega.{arith}
 use lib.ListN.{length, getD}
@@ -94,7 +94,8 @@ led-kept {n = n} {to} g block l =
       least = g .least;
     }
 
-pub led-raised : {x : List ℕ} {n to m b at : ℕ} → Led x n m at → Largest x n to to b → m < b → to ≤ length x → Led x to b n
+pub led-raised :
+    {x : List ℕ} {n to m b at : ℕ} → Led x n m at → Largest x n to to b → m < b → to ≤ length x → Led x to b n
 led-raised {n = n} {to} g block l inside =
     record {
       bound = λ i s.
@@ -158,6 +159,11 @@ crest-of {l} {z} {x} {h} {k} {m} {t} some half c f =
       least = λ i s. rw (same i (omega (arith, f .inside))) at (f .least i s);
     }
 
-pub wheeled-of : {l z : List ℕ} {h k : ℕ} → Sized l h k → Halves l z → Wheeled z h
-wheeled-of sized half =
-    record { some = omega (arith, sized .some, half .as-long); bits = halves-bits half; period = sized .period }
+pub wheeled-of : {l z : List ℕ} {h k : ℕ} → Sized l h k → Halves l z → Wheeled z (h % length l)
+wheeled-of {h = h} sized half =
+    let step = mod-lt h (sized .some) in
+    record {
+      step = omega (arith, half .as-long);
+      most = omega (arith, sized .most, half .as-long);
+      bits = halves-bits half;
+    }

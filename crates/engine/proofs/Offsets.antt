@@ -1,14 +1,17 @@
--- From lists to the rules: the crest of the counts after each tick is the worst count, at offset 0 or half a tick after a tick.
+-- From lists to the rules: the crest of the counts after each tick is the worst count, at offset 0 or half a tick
+-- after a tick.
 --
--- A strip dropped at a tick is dropped half a tick before and after it, so only odd half ticks can be worse than all before them, and half tick
--- 0, before which there is none.
+-- A strip dropped at a tick is dropped half a tick before and after it, so only odd half ticks can be worse than all
+-- before them, and half tick 0, before which there is none.
 -- In order: the counts of the rules; tick 0; the first largest; the worst. Assumes nothing.
 use mathlib.Core.Path.{_≡_, refl, sym, ap, _∙_}
-use mathlib.Core.Logic.{_⊎_, inl, inr, ⊎-elim}
+use mathlib.Core.Logic.{⊎-elim}
 use mathlib.Core.Bool.{Bool, true, false, _||_}
 use mathlib.Core.List.{List}
 use Prim.Native.Nat.{ℕ, zero, suc, _+_, _*_, _/_, _%_, _≤_, _<_, zero-le}
-use native.Mathlib.Nat.{one-mul, mul-left-comm, mod-lt, mod-add-mod, add-mod-mod, add-mul, eq-or-lt-of-le, le-of-suc-le-suc}
+use native.Mathlib.Nat.{one-mul, mul-left-comm, mod-lt, mod-add-mod, add-mod-mod, add-mul}
+use native.Mathlib.Nat.{eq-or-lt-of-le, le-of-suc-le-suc, zero-add, div-add-mod, mul-assoc, mul-right-comm}
+use native.Mathlib.Nat.{add-mul-mod-self-left}
 use native.Mathlib.Omega.{arith}
 use borrow.Author.Count.{below-more}
 use lib.Dec.{eqb}
@@ -105,8 +108,27 @@ pub alike-more :
     → either (getD l p 0) 0 ≡ either (getD l p 0) (getD l q 0) → Alike l h (i + 1)
 unfolding sure behind
 alike-more {l} {h} {i} {p} {q} alike here next same =
-    record { at = below-more (λ j. sure l ((0 + j * h) % length l) ≡ behind l ((0 + j * h) % length l)) i (alike .at)
-    (rw (← here, ← next) same) }
+    record {
+      at = below-more (λ j. sure l ((0 + j * h) % length l) ≡ behind l ((0 + j * h) % length l)) i (alike .at)
+          (rw (← here, ← next) same);
+    }
+
+-- Back at tick 0 after n strips, the strips repeat.
+pub alike-round : {l : List ℕ} {h k n : ℕ} → 0 < n → 0 ≡ (0 + n * h) % length l → Alike l h n → Alike l h k
+alike-round {l} {h} {k} {n} some home alike =
+    record {
+      at = λ j _. rw (again j) (alike .at (j % n) (mod-lt j some));
+    }
+  where
+    again : (j : ℕ) → (0 + j * h) % length l ≡ (0 + j % n * h) % length l
+    again j =
+        let w = length l in
+        let turns : n * h ≡ w * (n * h / w) = omega (arith, div-add-mod (n * h) w, rw zero-add at home) in
+        let whole : n * (j / n) * h ≡ w * (n * h / w * (j / n)) =
+        mul-right-comm n (j / n) h ∙ ap (λ y. y * (j / n)) turns ∙ mul-assoc w (n * h / w) (j / n) in
+        let e : 0 + j * h ≡ 0 + j % n * h + w * (n * h / w * (j / n)) =
+        omega (arith, ap (λ y. y * h) (div-add-mod j n), add-mul (n * (j / n)) (j % n) h) in
+        ap (λ y. y % w) e ∙ add-mul-mod-self-left (0 + j % n * h) w (n * h / w * (j / n))
 
 pub stride : (w h i p : ℕ) → p ≡ (0 + i * h) % w → (p + h % w) % w ≡ (0 + (i + 1) * h) % w
 stride w h i p here =
@@ -143,14 +165,17 @@ by-parity P even odd x = go (x / 2) (x % 2) (omega arith) (omega arith)
     go a (suc zero) s e = rw e (odd a)
     go a (suc (suc r)) s e = absurd (omega arith)
 
--- The crest, said of the rules' counts: m is the largest count half a tick after a tick, and tick t is the first that has it.
+-- The crest, said of the rules' counts: m is the largest count half a tick after a tick, and tick a is the first that
+-- has it.
 record Ridge (w : ℕ) (u : Subset) (t : Task) (m a : ℕ) : Type 0 where
   bound : (i : ℕ) → i < w → count 2 u t (2 * i + 1) ≤ m
   inside : a < w
   hit : count 2 u t (2 * a + 1) ≡ m
   least : (i : ℕ) → i < a → count 2 u t (2 * i + 1) < m
 
-ridge-of : (l : List ℕ) (u : Subset) (t : Task) (m a : ℕ) → Wheel (length l) u → Late l u t → Crest l (t .h) (t .k) m a → Ridge (length l) u t m a
+ridge-of :
+    (l : List ℕ) (u : Subset) (t : Task) (m a : ℕ) → Wheel (length l) u → Late l u t → Crest l (t .h) (t .k) m a
+    → Ridge (length l) u t m a
 unfolding count
 ridge-of l u t m a wheel late c =
     record {
@@ -167,7 +192,8 @@ ridge-bound {w} {u} {t} {m} r =
     (λ i s. r .bound i (omega arith))
 
 -- Offset 0: no half tick is before it.
-worst-zero : {w : ℕ} {u : Subset} {t : Task} {m a : ℕ} → Wheel w u → Ridge w u t m a → count 2 u t 0 ≡ m → Worst w u t m 0
+worst-zero :
+    {w : ℕ} {u : Subset} {t : Task} {m a : ℕ} → Wheel w u → Ridge w u t m a → count 2 u t 0 ≡ m → Worst w u t m 0
 worst-zero {w} {u} {t} {m} wheel r e =
     worst-of-best w u wheel t (record {
       value = m;
@@ -178,7 +204,8 @@ worst-zero {w} {u} {t} {m} wheel r e =
       least = λ i s. absurd (omega arith);
     })
 
--- Before the crest's half tick every count is less: of a later tick by the half tick before it, of tick 0 by the half tick after it, or as told.
+-- Before the crest's half tick every count is less: of a later tick by the half tick before it, of tick 0 by the half
+-- tick after it, or as told.
 worst-odd :
     {w : ℕ} {u : Subset} {t : Task} {m a : ℕ} → Wheel w u → Ridge w u t m a → (a ≡ 0 → count 2 u t 0 ≡ m → ⊥)
     → Worst w u t m (2 * a + 1)
@@ -198,6 +225,7 @@ worst-odd {w} {u} {t} {m} {a} wheel r off =
         let n : ¬ (count 2 u t 0 ≡ m) = off (sym e) in
         omega arith
     start (suc b) e = let x = count-after u t 0 in let y = r .least 0 (omega arith) in omega arith
+
     even : (i : ℕ) → 2 * i < 2 * a + 1 → count 2 u t (2 * i) < m
     even zero s = start a refl
     even (suc i) s =
@@ -217,7 +245,8 @@ peaks-zero {l} {h} {k} {m} crest whole same =
     }
 
 pub peaks-odd :
-    {l : List ℕ} {h k m a : ℕ} → Crest l h k m a → (a ≡ 0 → strips (sure l) (length l) h k 0 ≡ m → ⊥) → Peaks l h k m (2 * a + 1)
+    {l : List ℕ} {h k m a : ℕ} → Crest l h k m a → (a ≡ 0 → strips (sure l) (length l) h k 0 ≡ m → ⊥)
+    → Peaks l h k m (2 * a + 1)
 peaks-odd {l} {h} {k} {m} {a} crest off =
     record {
       worst = λ u t wheel late hh kk.
@@ -229,6 +258,16 @@ peaks-odd {l} {h} {k} {m} {a} crest off =
 pub peaks-one : {l : List ℕ} {h k m : ℕ} {r : Bool} → Crest l h k m 0 → Whole l h k r → r ≡ false → Peaks l h k m 1
 peaks-one crest whole differ =
     peaks-odd crest (λ z e. let less = whole .fewer differ in let top = crest .hit in omega arith)
+
+-- Where no half tick after a tick has drops, tick 0 has none.
+pub peaks-clear : {l : List ℕ} {h k a : ℕ} → Crest l h k 0 a → Peaks l h k 0 0
+peaks-clear {l} {h} {k} {a} crest =
+    record {
+      worst = λ u t wheel late hh kk.
+          let r = ridge-of l u t 0 a wheel late (rw (hh, kk) crest) in
+          let z = ridge-bound r 0 (omega (arith, crest .inside)) in
+          worst-zero wheel r (omega arith);
+    }
 
 -- No strips, no drops.
 pub peaks-none : {l : List ℕ} {h : ℕ} → 0 < length l → Peaks l h 0 0 0

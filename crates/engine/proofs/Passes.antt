@@ -1,14 +1,15 @@
 -- Laws of a pass: its loop from start to end, and two passes that are a turn of the wheel.
 --
--- Over any operation, so that one law serves every pass and every width. In order: the loop; a turn; what fits. Assumes nothing.
-use mathlib.Core.Path.{_≡_, refl, sym, ap, _∙_}
+-- Over any operation, so that one law serves every pass and every width.
+-- In order: the loop; a turn; what fits. Assumes nothing.
+use mathlib.Core.Path.{_≡_, refl, _∙_}
 use mathlib.Core.Logic.{_⊎_, inl, inr, ⊎-elim}
 use mathlib.Core.Bool.{Bool, true, false}
 use lib.Dec.{leb}
 use borrow.Author.Tests.{leb-true, leb-false}
 use mathlib.Core.List.{List}
-use Prim.Native.Nat.{ℕ, suc, _+_, _-_, _%_, _≤_, _<_}
-use native.Mathlib.Nat.{le-of-suc-le-suc, eq-or-lt-of-le, mod-eq-of-lt, add-mod-right, not-suc-le-zero}
+use Prim.Native.Nat.{ℕ, _+_, _-_, _%_, _≤_, _<_}
+use native.Mathlib.Nat.{le-of-suc-le-suc, eq-or-lt-of-le, mod-eq-of-lt, add-mod-right}
 use native.Mathlib.Numerals.{add-one}
 use native.Mathlib.Omega.{arith}
 use lib.ListN.{length, getD, set, length-set}
@@ -17,7 +18,7 @@ use Rattle.engine.specs.Pass.{Stretch, Passed, Turned, Fit}
 
 -- ---- the loop
 
--- Where the loop stands: it is at place i of the one list and at place j of the other, and the places before i are passed.
+-- Where the loop stands: at place i of the one list and place j of the other, with the places before i passed.
 pub record Going (op : ℕ → ℕ → ℕ) (d e x y : List ℕ) (from to at i j : ℕ) : Type 0 where
   pub kept : length e ≡ length d
   pub low : from ≤ i
@@ -37,8 +38,9 @@ going-start {from = from} s =
     }
 
 pub going-next :
-    {op : ℕ → ℕ → ℕ} {d e x y : List ℕ} {from to at i j v : ℕ} → Stretch d x y from to at → Going op d e x y from to at i j → i < to
-    → v ≡ op (getD x i 0) (getD y j 0) → Going op d (set e i v) x y from to at (i + 1) (j + 1)
+    {op : ℕ → ℕ → ℕ} {d e x y : List ℕ} {from to at i j v : ℕ} → Stretch d x y from to at
+    → Going op d e x y from to at i j → i < to → v ≡ op (getD x i 0) (getD y j 0)
+    → Going op d (set e i v) x y from to at (i + 1) (j + 1)
 going-next {d = d} {e} {x} {y} {from} {to} {at} {i} {j} {v} s g l q =
     let k : length e ≡ length d = g .kept in
     let inside : i < length e = omega (arith, s .written) in
@@ -62,7 +64,8 @@ going-next {d = d} {e} {x} {y} {from} {to} {at} {i} {j} {v} s g l q =
     }
 
 pub going-done :
-    {op : ℕ → ℕ → ℕ} {d e x y : List ℕ} {from to at i j : ℕ} → Going op d e x y from to at i j → to ≤ i → Passed op d e x y from to at
+    {op : ℕ → ℕ → ℕ} {d e x y : List ℕ} {from to at i j : ℕ} → Going op d e x y from to at i j → to ≤ i
+    → Passed op d e x y from to at
 going-done {to = to} {i = i} g l =
     let q : i ≡ to = omega (arith, g .high) in
     rw q at (g .passed)
@@ -94,6 +97,7 @@ turned {op} {f = f} {x} {y = y} {w} {r} {s} long round same first second =
         let m : (t + s) % w ≡ t + s = mod-eq-of-lt (omega arith) in
         let o : s + (t - 0) ≡ t + s = omega arith in
         second .below t g ∙ first .made t (omega arith) g ∙ rw (m, o)
+
     late : (t : ℕ) → t < w → r ≤ t → getD f t 0 ≡ op (getD x t 0) (getD y ((t + s) % w) 0)
     late t l g =
         let o : t + s ≡ t - r + w = omega arith in

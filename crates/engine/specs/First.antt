@@ -1,7 +1,7 @@
 -- The first largest entry of a list, and how far a search for it has come. Definitions only.
 --
---     Largest x from n to m    no entry of x from place from to place n − 1 is more than m, and one up to place to − 1 is m
---     Led x n m at             none of the first n entries is more than m, one at or after place at is m, and all before at are less
+--     Largest x from n to m    no entry of x from place from to n − 1 is more than m, and one before place to is m
+--     Led x n m at             none of the first n entries is more than m, one from place at on is m, all before less
 --     First x m t              m is the largest entry and t its first place
 use mathlib.Core.Path.{_≡_}
 use mathlib.Core.List.{List}

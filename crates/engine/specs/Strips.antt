@@ -2,14 +2,15 @@
 --
 --     either a b            1 where a or b is 1, else 0
 --     sure l a              1 where a strip that arrives at tick a is dropped
---     behind l a            1 where a strip that arrives half a tick after tick a is dropped: l is 1 at tick a or at the next tick of the wheel
+--     behind l a            1 where a strip half a tick after tick a is dropped: l is 1 at a or at the next tick round
 --     strips f w h n t      the sum of f over n ticks of a wheel of w, from t on in steps of h
---     Whole l h k r         r says whether k strips from tick 0 fare as those half a tick later do: else fewer of them are dropped
+--     Whole l h k r         r: k strips from tick 0 fare as those half a tick later do; otherwise fewer are dropped
 --     Halves l z            z has `behind l` at each tick
 --     Bits z                each entry of z is 0 or 1
 --     Counted z h n x       x has at each tick the count of n strips from there, by z
---     Wheeled z h           z is a wheel of bits, and h a period within document 01's bound
---     Crest l h k m t       m is the largest count of k strips from half a tick after a tick, and t the first tick that has it
+--     Wheeled z h           z is a wheel of bits of at most 16,384 ticks, and h a step within it
+--     Round z h n s         s is how far round the wheel n strips take
+--     Crest l h k m t       m is the largest count of k strips half a tick after a tick, t the first tick with it
 use mathlib.Core.Path.{_≡_}
 use mathlib.Core.Bool.{Bool, true, false, _||_}
 use mathlib.Core.List.{List}
@@ -46,9 +47,12 @@ pub record Counted (z : List ℕ) (h n : ℕ) (x : List ℕ) : Type 0 where
   pub at : (t : ℕ) → t < length z → getD x t 0 ≡ strips (λ a. getD z a 0) (length z) h n t
 
 pub record Wheeled (z : List ℕ) (h : ℕ) : Type 0 where
-  pub some : 0 < length z
+  pub step : h < length z
+  pub most : length z ≤ 16384
   pub bits : Bits z
-  pub period : h ≤ 1000000
+
+pub record Round (z : List ℕ) (h n s : ℕ) : Type 0 where
+  pub at : s ≡ n * h % length z
 
 pub record Crest (l : List ℕ) (h k m t : ℕ) : Type 0 where
   pub bound : (i : ℕ) → i < length l → strips (behind l) (length l) h k i ≤ m

@@ -6,7 +6,14 @@ ghost use lib.ListN.{length};
 ghost use Rattle.engine.specs.Late.{Sized, Peaks};
 
 // The part of each buffer that is as long as the wheel.
-fn within_bytes(late: &[u8], half: &mut [u8], here: &mut [u8], there: &mut [u8], h: usize, k: usize) -> Peak
+fn within_bytes(
+    late: &[u8],
+    half: &mut [u8],
+    here: &mut [u8],
+    there: &mut [u8],
+    h: usize,
+    k: usize,
+) -> Peak
     requires { ⌜ Sized (now late) h k ⌝ }
     requires { ⌜ length (now late) ≤ length (now half) ⌝ }
     requires { ⌜ (length (now late) ≤ length (now here)) × (length (now late) ≤ length (now there)) ⌝ }
@@ -17,7 +24,16 @@ fn within_bytes(late: &[u8], half: &mut [u8], here: &mut [u8], there: &mut [u8],
     judge::by_bytes(late, &mut half[..w], &mut here[..w], &mut there[..w], h, k)
 }
 
-fn within_words(late: &[u8], half: &mut [u8], low: &mut [u8], spare: &mut [u8], here: &mut [u16], there: &mut [u16], h: usize, k: usize) -> Peak
+fn within_words(
+    late: &[u8],
+    half: &mut [u8],
+    low: &mut [u8],
+    spare: &mut [u8],
+    here: &mut [u16],
+    there: &mut [u16],
+    h: usize,
+    k: usize,
+) -> Peak
     requires { ⌜ Sized (now late) h k ⌝ }
     requires { ⌜ length (now late) ≤ length (now half) ⌝ }
     requires { ⌜ (length (now late) ≤ length (now low)) × (length (now late) ≤ length (now spare)) ⌝ }
@@ -26,7 +42,16 @@ fn within_words(late: &[u8], half: &mut [u8], low: &mut [u8], spare: &mut [u8], 
     ensures { λ r. ⌜ Peaks (now (late .entry)) h k (r .drops) (r .offset) ⌝ }
 {
     let w = late.len();
-    judge::by_words(late, &mut half[..w], &mut low[..w], &mut spare[..w], &mut here[..w], &mut there[..w], h, k)
+    judge::by_words(
+        late,
+        &mut half[..w],
+        &mut low[..w],
+        &mut spare[..w],
+        &mut here[..w],
+        &mut there[..w],
+        h,
+        k,
+    )
 }
 
 fn bytes_256(late: &[u8], h: usize, k: usize) -> Peak
@@ -62,6 +87,17 @@ fn bytes_4096(late: &[u8], h: usize, k: usize) -> Peak
     within_bytes(late, &mut half, &mut here, &mut there, h, k)
 }
 
+fn bytes_8192(late: &[u8], h: usize, k: usize) -> Peak
+    requires { ⌜ Sized (now late) h k ⌝ }
+    requires { ⌜ (length (now late) ≤ 8192) × (0 < k) × (k < 256) ⌝ }
+    ensures { λ r. ⌜ Peaks (now (late .entry)) h k (r .drops) (r .offset) ⌝ }
+{
+    let mut half = [0u8; 8192];
+    let mut here = [0u8; 8192];
+    let mut there = [0u8; 8192];
+    within_bytes(late, &mut half, &mut here, &mut there, h, k)
+}
+
 fn bytes_16384(late: &[u8], h: usize, k: usize) -> Peak
     requires { ⌜ Sized (now late) h k ⌝ }
     requires { ⌜ (length (now late) ≤ 16384) × (0 < k) × (k < 256) ⌝ }
@@ -83,7 +119,16 @@ fn words_256(late: &[u8], h: usize, k: usize) -> Peak
     let mut spare = [0u8; 256];
     let mut here = [0u16; 256];
     let mut there = [0u16; 256];
-    within_words(late, &mut half, &mut low, &mut spare, &mut here, &mut there, h, k)
+    within_words(
+        late,
+        &mut half,
+        &mut low,
+        &mut spare,
+        &mut here,
+        &mut there,
+        h,
+        k,
+    )
 }
 
 fn words_2048(late: &[u8], h: usize, k: usize) -> Peak
@@ -96,7 +141,16 @@ fn words_2048(late: &[u8], h: usize, k: usize) -> Peak
     let mut spare = [0u8; 2048];
     let mut here = [0u16; 2048];
     let mut there = [0u16; 2048];
-    within_words(late, &mut half, &mut low, &mut spare, &mut here, &mut there, h, k)
+    within_words(
+        late,
+        &mut half,
+        &mut low,
+        &mut spare,
+        &mut here,
+        &mut there,
+        h,
+        k,
+    )
 }
 
 fn words_4096(late: &[u8], h: usize, k: usize) -> Peak
@@ -109,7 +163,38 @@ fn words_4096(late: &[u8], h: usize, k: usize) -> Peak
     let mut spare = [0u8; 4096];
     let mut here = [0u16; 4096];
     let mut there = [0u16; 4096];
-    within_words(late, &mut half, &mut low, &mut spare, &mut here, &mut there, h, k)
+    within_words(
+        late,
+        &mut half,
+        &mut low,
+        &mut spare,
+        &mut here,
+        &mut there,
+        h,
+        k,
+    )
+}
+
+fn words_8192(late: &[u8], h: usize, k: usize) -> Peak
+    requires { ⌜ Sized (now late) h k ⌝ }
+    requires { ⌜ (length (now late) ≤ 8192) × (256 ≤ k) ⌝ }
+    ensures { λ r. ⌜ Peaks (now (late .entry)) h k (r .drops) (r .offset) ⌝ }
+{
+    let mut half = [0u8; 8192];
+    let mut low = [0u8; 8192];
+    let mut spare = [0u8; 8192];
+    let mut here = [0u16; 8192];
+    let mut there = [0u16; 8192];
+    within_words(
+        late,
+        &mut half,
+        &mut low,
+        &mut spare,
+        &mut here,
+        &mut there,
+        h,
+        k,
+    )
 }
 
 fn words_16384(late: &[u8], h: usize, k: usize) -> Peak
@@ -122,17 +207,33 @@ fn words_16384(late: &[u8], h: usize, k: usize) -> Peak
     let mut spare = [0u8; 16384];
     let mut here = [0u16; 16384];
     let mut there = [0u16; 16384];
-    within_words(late, &mut half, &mut low, &mut spare, &mut here, &mut there, h, k)
+    within_words(
+        late,
+        &mut half,
+        &mut low,
+        &mut spare,
+        &mut here,
+        &mut there,
+        h,
+        k,
+    )
 }
 
-// The largest frame. Two calls lead here, as to `wider`, so that the compiler keeps it out of the smaller wheels' frames.
+// The largest frame. Two calls lead here, as to `wider`: a function called once is inlined, and its frame with it.
 fn widest(late: &[u8], h: usize, k: usize) -> Peak
     requires { ⌜ Sized (now late) h k ⌝ }
     requires { ⌜ 0 < k ⌝ }
     ensures { λ r. ⌜ Peaks (now (late .entry)) h k (r .drops) (r .offset) ⌝ }
 {
+    let w = late.len();
     if k < 256 {
+        if w <= 8192 {
+            return bytes_8192(late, h, k);
+        }
         return bytes_16384(late, h, k);
+    }
+    if w <= 8192 {
+        return words_8192(late, h, k);
     }
     words_16384(late, h, k)
 }
@@ -161,7 +262,7 @@ fn wider(late: &[u8], h: usize, k: usize) -> Peak
     widest(late, h, k)
 }
 
-pub fn judged(late: &[u8], h: usize, k: usize) -> Peak
+pub fn fitting(late: &[u8], h: usize, k: usize) -> Peak
     requires { ⌜ Sized (now late) h k ⌝ }
     requires { ⌜ 0 < k ⌝ }
     ensures { λ r. ⌜ Peaks (now (late .entry)) h k (r .drops) (r .offset) ⌝ }

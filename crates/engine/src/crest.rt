@@ -28,11 +28,7 @@ fn block_end(from: usize, n: usize) -> usize
     requires { ⌜ from < n ⌝ }
     ensures { λ r. ⌜ (from < r) × (r ≤ n) ⌝ }
 {
-    if n - from <= BLOCK {
-        n
-    } else {
-        from + BLOCK
-    }
+    if n - from <= BLOCK { n } else { from + BLOCK }
 }
 
 fn largest(x: &[u8], from: usize, to: usize) -> u8
@@ -98,9 +94,9 @@ pub fn of_bytes(x: &[u8]) -> Crest
     let mut from = 0;
     while from < x.len() {
         let to = block_end(from, x.len());
-        let b = largest(x, from, to);
-        if m < b {
-            m = b;
+        let byte = largest(x, from, to);
+        if m < byte {
+            m = byte;
             at = from;
         }
         from = to;
@@ -121,9 +117,9 @@ pub fn of_words(x: &[u16]) -> Crest
     let mut from = 0;
     while from < x.len() {
         let to = block_end(from, x.len());
-        let b = largest_word(x, from, to);
-        if m < b {
-            m = b;
+        let word = largest_word(x, from, to);
+        if m < word {
+            m = word;
             at = from;
         }
         from = to;

@@ -9,7 +9,14 @@ ghost use Prim.Native.Nat.{_≤_, _<_};
 ghost use lib.ListN.{length};
 ghost use Rattle.engine.specs.Late.{Sized, Peaks};
 
-pub fn by_bytes(late: &[u8], half: &mut [u8], here: &mut [u8], there: &mut [u8], h: usize, k: usize) -> Peak
+pub fn by_bytes(
+    late: &[u8],
+    half: &mut [u8],
+    here: &mut [u8],
+    there: &mut [u8],
+    h: usize,
+    k: usize,
+) -> Peak
     requires { ⌜ Sized (now late) h k ⌝ }
     requires { ⌜ length (now half) ≡ length (now late) ⌝ }
     requires { ⌜ (length (now here) ≡ length (now late)) × (length (now there) ≡ length (now late)) ⌝ }
@@ -21,12 +28,21 @@ pub fn by_bytes(late: &[u8], half: &mut [u8], here: &mut [u8], there: &mut [u8],
         let c = crest::of_bytes(half);
         return offset::place(late, h, k, c.drops, c.at);
     }
-    count::bytes(half, here, there, h, k);
+    count::bytes(half, here, there, h % late.len(), k);
     let c = crest::of_bytes(here);
     offset::place(late, h, k, c.drops, c.at)
 }
 
-pub fn by_words(late: &[u8], half: &mut [u8], low: &mut [u8], spare: &mut [u8], here: &mut [u16], there: &mut [u16], h: usize, k: usize) -> Peak
+pub fn by_words(
+    late: &[u8],
+    half: &mut [u8],
+    low: &mut [u8],
+    spare: &mut [u8],
+    here: &mut [u16],
+    there: &mut [u16],
+    h: usize,
+    k: usize,
+) -> Peak
     requires { ⌜ Sized (now late) h k ⌝ }
     requires { ⌜ length (now half) ≡ length (now late) ⌝ }
     requires { ⌜ (length (now low) ≡ length (now late)) × (length (now spare) ≡ length (now late)) ⌝ }
@@ -35,7 +51,7 @@ pub fn by_words(late: &[u8], half: &mut [u8], low: &mut [u8], spare: &mut [u8], 
     ensures { λ r. ⌜ Peaks (now (late .entry)) h k (r .drops) (r .offset) ⌝ }
 {
     turn::halves(late, half);
-    count::words(half, low, spare, here, there, h, k);
+    count::words(half, low, spare, here, there, h % late.len(), k);
     let c = crest::of_words(here);
     offset::place(late, h, k, c.drops, c.at)
 }

@@ -1,12 +1,12 @@
 // The worst count and offset of a wheel.
-mod pass;
-mod turn;
+mod buffers;
 mod count;
 mod crest;
-mod offset;
 mod judge;
-mod buffers;
-ghost use lib.ListN.{length};
+mod offset;
+mod pass;
+mod turn;
+
 ghost use Rattle.engine.specs.Late.{Sized, Peaks};
 
 // How many of the k strips are dropped at worst, and the smallest half tick from which they are.
@@ -20,7 +20,10 @@ pub fn worst(late: &[u8], h: usize, k: usize) -> Peak
     ensures { λ r. ⌜ Peaks (now (late .entry)) h k (r .drops) (r .offset) ⌝ }
 {
     if k == 0 {
-        return Peak { drops: 0, offset: 0 };
+        return Peak {
+            drops: 0,
+            offset: 0,
+        };
     }
-    buffers::judged(late, h, k)
+    buffers::fitting(late, h, k)
 }

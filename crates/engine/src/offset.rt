@@ -1,22 +1,11 @@
 // From the crest of the counts to the worst count and offset.
 use crate::Peak;
+use crate::turn;
 ghost use mathlib.Core.Path.{_≡_};
 ghost use mathlib.Core.Bool.{true, false};
-ghost use Prim.Native.Nat.{_+_, _%_, _≤_, _<_};
-ghost use lib.ListN.{length};
+ghost use Prim.Native.Nat.{_<_};
 ghost use Rattle.engine.specs.Late.{Sized, Peaks};
 ghost use Rattle.engine.specs.Strips.{either, Crest, Whole};
-
-fn onward(p: usize, s: usize, w: usize) -> usize
-    requires { ⌜ (p < w) × (s ≤ w) × (w ≤ 16384) ⌝ }
-    ensures { λ r. ⌜ (r ≡ (p + s) % w) × (r < w) ⌝ }
-{
-    let q = p + s;
-    if q < w {
-        return q;
-    }
-    q - w
-}
 
 // Painted at a tick, a strip half a tick later is dropped where the next tick's is.
 fn differ(here: u8, next: u8) -> bool
@@ -33,6 +22,7 @@ fn differ(here: u8, next: u8) -> bool
 }
 
 // Strips from tick 0 are dropped only where those half a tick later are, so one strip that differs settles it.
+// Back at tick 0 the strips repeat.
 fn whole(late: &[u8], h: usize, k: usize) -> bool
     requires { ⌜ Sized (now late) h k ⌝ }
     ensures { λ r. ⌜ Whole (now (late .entry)) h k r ⌝ }
@@ -42,12 +32,15 @@ fn whole(late: &[u8], h: usize, k: usize) -> bool
     let mut p = 0;
     let mut i = 0;
     while i < k {
-        let q = onward(p, 1, w);
+        let q = turn::onward(p, 1, w);
         if differ(late[p], late[q]) {
             return false;
         }
-        p = onward(p, s, w);
+        p = turn::onward(p, s, w);
         i += 1;
+        if p == 0 {
+            return true;
+        }
     }
     true
 }
@@ -57,6 +50,12 @@ pub fn place(late: &[u8], h: usize, k: usize, drops: u32, at: usize) -> Peak
     requires { ⌜ Crest (now late) h k drops at ⌝ }
     ensures { λ r. ⌜ Peaks (now (late .entry)) h k (r .drops) (r .offset) ⌝ }
 {
+    if drops == 0 {
+        return Peak {
+            drops: 0,
+            offset: 0,
+        };
+    }
     if at != 0 {
         return Peak {
             drops: drops,

@@ -1,10 +1,22 @@
 // A whole wheel against itself turned by s places: a stretch up to the end of what is read, and one from its start on.
 use crate::pass;
 ghost use mathlib.Core.Path.{_≡_};
-ghost use Prim.Native.Nat.{_+_, _≤_, _<_};
+ghost use Prim.Native.Nat.{_+_, _%_, _≤_, _<_};
 ghost use lib.ListN.{length};
 ghost use Rattle.engine.specs.Strips.{Halves};
 ghost use Rattle.engine.specs.Pass.{Turned, Fit};
+
+// A place s places further round.
+pub fn onward(p: usize, s: usize, w: usize) -> usize
+    requires { ⌜ (p < w) × (s ≤ w) × (w ≤ 16384) ⌝ }
+    ensures { λ r. ⌜ (r ≡ (p + s) % w) × (r < w) ⌝ }
+{
+    let q = p + s;
+    if q < w {
+        return q;
+    }
+    q - w
+}
 
 // Between two ticks a strip is dropped exactly when it is dropped at one of them.
 pub fn halves(late: &[u8], half: &mut [u8])

@@ -25,7 +25,7 @@ sub-result c = omega (arith, total-rises _ _ (c .before .before .before .before 
 
 returns : tie.Need-returns
 returns c = let all : (u : Subset) → Wheel (c .before .before .before .before .args .w) u → Upto (c .before .before .before .before .args .total .now) (c .before .before .before .before .args .w) u → _ ≡ supply 1 u (c .before .before .before .before .args .r) (c .before .before .before .before .args .a) =
-        λ u wheel upto. rest-inside _ _ u wheel upto _ _ _ _ (c .before .if1 .taken) (c .before .before .below .ensures .0) (c .below2 .ensures .0) in
+    λ u wheel upto. rest-inside _ _ u wheel upto _ _ _ _ (c .before .if1 .taken) (c .before .before .below .ensures .0) (c .below2 .ensures .0) in
     (bounded _ _ (c .before .before .before .before .pre .0) _ _ _ all, all)
 
 below-requires-3 : tie.Need-below-requires-3
@@ -45,8 +45,8 @@ add-result c = search needs
 
 returns-2 : tie.Need-returns-2
 returns-2 c = let all : (u : Subset) → Wheel (c .before .before .before .before .before .args .w) u → Upto (c .before .before .before .before .before .args .total .now) (c .before .before .before .before .before .args .w) u → _ ≡ supply 1 u (c .before .before .before .before .before .args .r) (c .before .before .before .before .before .args .a) =
-        λ u wheel upto. rest-over _ _ u wheel upto _ _ _ _ _ (omega arith) (omega arith) (omega arith)
-            (c .before .below3 .ensures .0) (c .before .before .before .below .ensures .0) (c .below4 .ensures .0) in
+    λ u wheel upto. rest-over _ _ u wheel upto _ _ _ _ _ (omega arith) (omega arith) (omega arith)
+    (c .before .below3 .ensures .0) (c .before .before .before .below .ensures .0) (c .below4 .ensures .0) in
     (bounded _ _ (c .before .before .before .before .before .pre .0) _ _ _ all, all)
 
 pub rest-spec : {M : Type 1} → statement M

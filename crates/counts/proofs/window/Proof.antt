@@ -25,7 +25,7 @@ add-result c = omega (arith, mod-le (c .before .before .before .args .d) (c .bef
 
 returns : tie.Need-returns
 returns c = let all : (u : Subset) → Wheel (c .before .before .before .args .w) u → Upto (c .before .before .before .args .total .now) (c .before .before .before .args .w) u → _ ≡ supply 1 u (c .before .before .before .args .d) (c .before .before .before .args .a) =
-        λ u wheel upto. window-split _ _ u wheel upto _ _ _ _ (c .before .turned .ensures .0) (c .rest .ensures .1 u wheel upto) in
+    λ u wheel upto. window-split _ _ u wheel upto _ _ _ _ (c .before .turned .ensures .0) (c .rest .ensures .1 u wheel upto) in
     (bounded _ _ (c .before .before .before .pre .0) _ _ _ all, all)
 
 pub window-spec : {M : Type 1} → statement M

@@ -5,7 +5,6 @@ use lib.Seq.{length-take-le}
 use borrow.Author.Needs.{needs}
 use Rattle.engine.proofs.buffers.within_bytes.Statement.{statement}
 use Rattle.engine.proofs.buffers.within_bytes.Tie as tie
-use Rattle.engine.proofs.judge.by_bytes.Reads as by-bytes-reads
 
 slice-relend-prefix-by-bytes : tie.Need-slice-relend-prefix-by-bytes
 slice-relend-prefix-by-bytes c = search needs
@@ -17,19 +16,27 @@ slice-relend-prefix-by-bytes-2 : tie.Need-slice-relend-prefix-by-bytes-2
 slice-relend-prefix-by-bytes-2 c = search needs
 
 slice-aggregate-by-bytes-2 : tie.Need-slice-aggregate-by-bytes-2
-slice-aggregate-by-bytes-2 c = sym (length-take-le _ _ (c .before .before .before .before .before .before .pre .1 .1 .0 .0))
+slice-aggregate-by-bytes-2 c =
+    let start = c .before .before .before .before .before .before in
+    sym (length-take-le _ _ (start .pre .1 .1 .0 .0))
 
 slice-relend-prefix-by-bytes-3 : tie.Need-slice-relend-prefix-by-bytes-3
 slice-relend-prefix-by-bytes-3 c = search needs
 
 slice-aggregate-by-bytes-3 : tie.Need-slice-aggregate-by-bytes-3
-slice-aggregate-by-bytes-3 c = sym (length-take-le _ _ (c .before .before .before .before .before .before .before .pre .1 .1 .0 .1))
+slice-aggregate-by-bytes-3 c =
+    let start = c .before .before .before .before .before .before .before in
+    sym (length-take-le _ _ (start .pre .1 .1 .0 .1))
 
 by-bytes-requires : tie.Need-by-bytes-requires
-by-bytes-requires c κs = 
-    let pre = c .before .before .before .before .before .before .before .pre in
-    (pre .0, (length-take-le _ _ (pre .1 .0),
-    ((length-take-le _ _ (pre .1 .1 .0 .0), length-take-le _ _ (pre .1 .1 .0 .1)), pre .1 .1 .1)))
+by-bytes-requires c κs =
+    let pre = c .before .before .before .before .before .before .before .pre in (
+      pre .0,
+      (
+        length-take-le _ _ (pre .1 .0),
+        ((length-take-le _ _ (pre .1 .1 .0 .0), length-take-le _ _ (pre .1 .1 .0 .1)), pre .1 .1 .1),
+      ),
+    )
 
 same-length : tie.Need-same-length
 same-length c = search needs

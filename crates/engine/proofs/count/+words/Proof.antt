@@ -1,7 +1,8 @@
--- The measure is k: each call halves it. Counts of n and of n are counts of k − k % 2 (`counted-add`), and `odd_words` adds the last strip.
+-- The measure is k: each call halves it. Counts of n and of n are counts of k − k % 2 (`counted-add`), and
+-- `odd_words` adds the last strip.
 -- Assumes nothing.
 use native.Mathlib.Omega.{arith}
-use Rattle.engine.proofs.Counts.{counted-add, counted-fit}
+use Rattle.engine.proofs.Counts.{counted-add, round-add, round-onward, doubling}
 use Prim.Native.Nat.{ℕ, _<_}
 use borrow.Fn.Kinds.{In}
 use borrow.Fn.PlainCycle.{Measures, is, falls, and}
@@ -10,9 +11,9 @@ use Rattle.engine.proofs.count.words.Kinds as words-kinds
 use Rattle.engine.proofs.count.+words.Lts-words as words-lts
 use Rattle.engine.proofs.count.bytes.Reads as bytes-reads
 use Rattle.engine.proofs.count.odd_words.Reads as odd-words-reads
-use Rattle.engine.proofs.count.round.Reads as round-reads
 use Rattle.engine.proofs.turn.double_wide.Reads as double-wide-reads
 use Rattle.engine.proofs.turn.double_words.Reads as double-words-reads
+use Rattle.engine.proofs.turn.onward.Reads as onward-reads
 use Rattle.engine.proofs.count.+words.{statement}
 use Rattle.engine.proofs.count.+words.Tie.{close}
 
@@ -25,29 +26,13 @@ words-at t = and 5 words-kinds.ps (is 5 words-kinds.ps μ-words t) words.Pre
 abbrev words-below : ℕ → In 5 words-kinds.ps
 words-below t = and 5 words-kinds.ps (falls 5 words-kinds.ps _<_ μ-words t) words.Pre
 
-words-round-requires : (t : ℕ) → words-lts.Need-round-requires (
-  round-reads.Asked,
-  round-reads.Learnt,
-  bytes-reads.Asked,
-  bytes-reads.Learnt,
-  double-wide-reads.Asked,
-  double-wide-reads.Learnt,
-  odd-words-reads.Asked,
-  odd-words-reads.Learnt,
-  words-below t,
-  words.Post,
-  double-words-reads.Asked,
-  double-words-reads.Learnt,
-) (words-at t) words.Post
-words-round-requires t c κs = omega (arith, c .before .before .before .before .before .pre)
-
 words-bytes-requires : (t : ℕ) → words-lts.Need-bytes-requires (
-  round-reads.Asked,
-  round-reads.Learnt,
   bytes-reads.Asked,
   bytes-reads.Learnt,
   double-wide-reads.Asked,
   double-wide-reads.Learnt,
+  onward-reads.Asked,
+  onward-reads.Learnt,
   odd-words-reads.Asked,
   odd-words-reads.Learnt,
   words-below t,
@@ -55,17 +40,17 @@ words-bytes-requires : (t : ℕ) → words-lts.Need-bytes-requires (
   double-words-reads.Asked,
   double-words-reads.Learnt,
 ) (words-at t) words.Post
-words-bytes-requires t c κs = 
-    let start = c .before .before .before .before .before .before .before .before .before in
-    (start .pre .1 .0, (omega (arith, start .pre), omega (arith, start .pre, c .before .before .if1 .taken)))
+words-bytes-requires t c κs =
+    let pre = c .before .before .before .before .before .before .before .before .pre .1 in
+    (pre .0, (pre .1 .0, omega (arith, pre, c .before .before .if1 .taken)))
 
 words-double-wide-requires : (t : ℕ) → words-lts.Need-double-wide-requires (
-  round-reads.Asked,
-  round-reads.Learnt,
   bytes-reads.Asked,
   bytes-reads.Learnt,
   double-wide-reads.Asked,
   double-wide-reads.Learnt,
+  onward-reads.Asked,
+  onward-reads.Learnt,
   odd-words-reads.Asked,
   odd-words-reads.Learnt,
   words-below t,
@@ -73,20 +58,40 @@ words-double-wide-requires : (t : ℕ) → words-lts.Need-double-wide-requires (
   double-words-reads.Asked,
   double-words-reads.Learnt,
 ) (words-at t) words.Post
-words-double-wide-requires t c κs = 
-    let start = c .before .before .before .before .before .before .before .before .before .before .before .before .before .before .before .before in
-    let wheel = start .pre .1 .0 in
-    let n = c .before .before .before .before .before .before .bytes .ensures in
-    ((omega (arith, n .as-long, start .pre), omega (arith, n .as-long, c .before .before .before .before .before .before .before .before .before .before .round .ensures .1)),
-    counted-fit (wheel .bits) n n (omega (arith, start .pre)))
+words-double-wide-requires t c κs =
+    let at-bytes = c .before .before .before .before .before .before in
+    let start = at-bytes .before .before .before .before .before .before .before .before .before in
+    let pre = start .pre .1 in
+    let n = at-bytes .bytes in
+    doubling (pre .0) (n .ensures .0) (n .ensures .1) (pre .1 .1 .0 .0) (omega (arith, pre))
+
+words-onward-requires : (t : ℕ) → words-lts.Need-onward-requires (
+  bytes-reads.Asked,
+  bytes-reads.Learnt,
+  double-wide-reads.Asked,
+  double-wide-reads.Learnt,
+  onward-reads.Asked,
+  onward-reads.Learnt,
+  odd-words-reads.Asked,
+  odd-words-reads.Learnt,
+  words-below t,
+  words.Post,
+  double-words-reads.Asked,
+  double-words-reads.Learnt,
+) (words-at t) words.Post
+words-onward-requires t c κs =
+    let at-bytes = c .before .before .before .before .before .before .before .before .before in
+    let start = at-bytes .before .before .before .before .before .before .before .before .before in
+    let n = at-bytes .bytes .ensures .1 in
+    round-onward (start .pre .1 .0) n n
 
 words-odd-words-requires : (t : ℕ) → words-lts.Need-odd-words-requires (
-  round-reads.Asked,
-  round-reads.Learnt,
   bytes-reads.Asked,
   bytes-reads.Learnt,
   double-wide-reads.Asked,
   double-wide-reads.Learnt,
+  onward-reads.Asked,
+  onward-reads.Learnt,
   odd-words-reads.Asked,
   odd-words-reads.Learnt,
   words-below t,
@@ -94,20 +99,28 @@ words-odd-words-requires : (t : ℕ) → words-lts.Need-odd-words-requires (
   double-words-reads.Asked,
   double-words-reads.Learnt,
 ) (words-at t) words.Post
-words-odd-words-requires t c κs = 
-    let start = c .before .before .before .before .before .before .before .before .before .before .before .before .before .before .before .before .before .before .before .before in
-    let wheel = start .pre .1 .0 in
-    let n = c .before .before .before .before .before .before .before .before .before .before .bytes .ensures in
-    (wheel, (counted-add (omega arith) (omega arith) (wheel .some) n n
-    (omega (arith, c .before .before .before .double-wide .kept, start .pre)) (c .before .before .before .before .before .before .before .before .before .before .before .before .before .before .round .ensures .0) (c .before .before .before .double-wide .ensures), omega (arith, start .pre)))
+words-odd-words-requires t c κs =
+    let at-double-wide = c .before .before .before .before in
+    let at-bytes = at-double-wide .before .before .before .before .before .before .before in
+    let start = at-bytes .before .before .before .before .before .before .before .before .before in
+    let pre = start .pre .1 in
+    let n = at-bytes .bytes in (
+      pre .0,
+      (
+        counted-add (omega arith) (pre .0) (n .ensures .0) (n .ensures .0)
+            (omega (arith, at-double-wide .double-wide .kept, pre)) (n .ensures .1)
+            (at-double-wide .double-wide .ensures),
+        (round-add (omega arith) (n .ensures .1) (n .ensures .1) (c .before .onward .ensures .0), omega (arith, pre)),
+      ),
+    )
 
 words-same-length : (t : ℕ) → words-lts.Need-same-length (
-  round-reads.Asked,
-  round-reads.Learnt,
   bytes-reads.Asked,
   bytes-reads.Learnt,
   double-wide-reads.Asked,
   double-wide-reads.Learnt,
+  onward-reads.Asked,
+  onward-reads.Learnt,
   odd-words-reads.Asked,
   odd-words-reads.Learnt,
   words-below t,
@@ -115,15 +128,18 @@ words-same-length : (t : ℕ) → words-lts.Need-same-length (
   double-words-reads.Asked,
   double-words-reads.Learnt,
 ) (words-at t) words.Post
-words-same-length t c = omega (arith, c .before .before .before .before .before .before .before .before .before .before .before .before .before .bytes .kept)
+words-same-length t c =
+    let way = c .before .before .before .before .before .before .before .before in
+    let at-bytes = way .before .before .before .before .before .before in
+    omega (arith, at-bytes .bytes .kept)
 
 words-same-length-2 : (t : ℕ) → words-lts.Need-same-length-2 (
-  round-reads.Asked,
-  round-reads.Learnt,
   bytes-reads.Asked,
   bytes-reads.Learnt,
   double-wide-reads.Asked,
   double-wide-reads.Learnt,
+  onward-reads.Asked,
+  onward-reads.Learnt,
   odd-words-reads.Asked,
   odd-words-reads.Learnt,
   words-below t,
@@ -131,15 +147,18 @@ words-same-length-2 : (t : ℕ) → words-lts.Need-same-length-2 (
   double-words-reads.Asked,
   double-words-reads.Learnt,
 ) (words-at t) words.Post
-words-same-length-2 t c = omega (arith, c .before .before .before .before .before .before .before .before .before .before .before .before .before .bytes .kept)
+words-same-length-2 t c =
+    let way = c .before .before .before .before .before .before .before .before in
+    let at-bytes = way .before .before .before .before .before .before in
+    omega (arith, at-bytes .bytes .kept)
 
 words-same-length-3 : (t : ℕ) → words-lts.Need-same-length-3 (
-  round-reads.Asked,
-  round-reads.Learnt,
   bytes-reads.Asked,
   bytes-reads.Learnt,
   double-wide-reads.Asked,
   double-wide-reads.Learnt,
+  onward-reads.Asked,
+  onward-reads.Learnt,
   odd-words-reads.Asked,
   odd-words-reads.Learnt,
   words-below t,
@@ -147,15 +166,18 @@ words-same-length-3 : (t : ℕ) → words-lts.Need-same-length-3 (
   double-words-reads.Asked,
   double-words-reads.Learnt,
 ) (words-at t) words.Post
-words-same-length-3 t c = omega (arith, c .before .before .odd-words .kept, c .before .before .before .before .before .before .double-wide .kept)
+words-same-length-3 t c =
+    let at-odd-words = c .before .before in
+    let at-double-wide = at-odd-words .before .before .before .before .before in
+    omega (arith, at-odd-words .odd-words .kept, at-double-wide .double-wide .kept)
 
 words-returns : (t : ℕ) → words-lts.Need-returns (
-  round-reads.Asked,
-  round-reads.Learnt,
   bytes-reads.Asked,
   bytes-reads.Learnt,
   double-wide-reads.Asked,
   double-wide-reads.Learnt,
+  onward-reads.Asked,
+  onward-reads.Learnt,
   odd-words-reads.Asked,
   odd-words-reads.Learnt,
   words-below t,
@@ -166,12 +188,12 @@ words-returns : (t : ℕ) → words-lts.Need-returns (
 words-returns t c = c .before .before .odd-words .ensures
 
 words-words-requires : (t : ℕ) → words-lts.Need-words-requires (
-  round-reads.Asked,
-  round-reads.Learnt,
   bytes-reads.Asked,
   bytes-reads.Learnt,
   double-wide-reads.Asked,
   double-wide-reads.Learnt,
+  onward-reads.Asked,
+  onward-reads.Learnt,
   odd-words-reads.Asked,
   odd-words-reads.Learnt,
   words-below t,
@@ -179,18 +201,21 @@ words-words-requires : (t : ℕ) → words-lts.Need-words-requires (
   double-words-reads.Asked,
   double-words-reads.Learnt,
 ) (words-at t) words.Post
-words-words-requires t c κs = 
-    let start = c .before .before .before .before .before .before .before .before .before .before .before in
-    (omega (arith, start .pre),
-    (start .pre .1 .0, (omega (arith, start .pre), (omega (arith, start .pre), omega (arith, start .pre, c .before .before .before .before .if1 .left)))))
+words-words-requires t c κs =
+    let branch = c .before .before .before .before in
+    let start = branch .before .before .before .before .before .before in
+    let pre = start .pre in (
+      omega (arith, pre),
+      (pre .1 .0, (pre .1 .1 .0, ((pre .1 .1 .1 .0 .1, pre .1 .1 .1 .0 .0), omega (arith, pre, branch .if1 .left)))),
+    )
 
 words-double-words-requires : (t : ℕ) → words-lts.Need-double-words-requires (
-  round-reads.Asked,
-  round-reads.Learnt,
   bytes-reads.Asked,
   bytes-reads.Learnt,
   double-wide-reads.Asked,
   double-wide-reads.Learnt,
+  onward-reads.Asked,
+  onward-reads.Learnt,
   odd-words-reads.Asked,
   odd-words-reads.Learnt,
   words-below t,
@@ -198,20 +223,41 @@ words-double-words-requires : (t : ℕ) → words-lts.Need-double-words-requires
   double-words-reads.Asked,
   double-words-reads.Learnt,
 ) (words-at t) words.Post
-words-double-words-requires t c κs = 
-    let start = c .before .before .before .before .before .before .before .before .before .before .before .before .before .before .before .before .before .before .before .before .before .before in
-    let wheel = start .pre .1 .0 in
-    let n = c .before .before .before .before .before .before .before .before .before .before .words .ensures in
-    ((omega (arith, n .as-long, c .before .before .before .before .before .before .before .before .before .before .words .kept, start .pre), omega (arith, n .as-long, c .before .before .before .before .before .before .before .before .before .before .before .before .before .before .before .before .round .ensures .1)),
-    counted-fit (wheel .bits) n n (omega (arith, start .pre)))
+words-double-words-requires t c κs =
+    let at-words = c .before .before .before .before .before .before .before .before .before .before in
+    let start = at-words .before .before .before .before .before .before .before .before .before .before .before in
+    let pre = start .pre .1 in
+    let n = at-words .words in
+    doubling (pre .0) (n .ensures .0) (n .ensures .1) (omega (arith, n .kept, pre)) (omega (arith, pre))
+
+words-onward-requires-2 : (t : ℕ) → words-lts.Need-onward-requires-2 (
+  bytes-reads.Asked,
+  bytes-reads.Learnt,
+  double-wide-reads.Asked,
+  double-wide-reads.Learnt,
+  onward-reads.Asked,
+  onward-reads.Learnt,
+  odd-words-reads.Asked,
+  odd-words-reads.Learnt,
+  words-below t,
+  words.Post,
+  double-words-reads.Asked,
+  double-words-reads.Learnt,
+) (words-at t) words.Post
+words-onward-requires-2 t c κs =
+    let way = c .before .before .before .before .before .before .before .before in
+    let at-words = way .before .before .before .before .before in
+    let start = at-words .before .before .before .before .before .before .before .before .before .before .before in
+    let n = at-words .words .ensures .1 in
+    round-onward (start .pre .1 .0) n n
 
 words-odd-words-requires-2 : (t : ℕ) → words-lts.Need-odd-words-requires-2 (
-  round-reads.Asked,
-  round-reads.Learnt,
   bytes-reads.Asked,
   bytes-reads.Learnt,
   double-wide-reads.Asked,
   double-wide-reads.Learnt,
+  onward-reads.Asked,
+  onward-reads.Learnt,
   odd-words-reads.Asked,
   odd-words-reads.Learnt,
   words-below t,
@@ -219,21 +265,29 @@ words-odd-words-requires-2 : (t : ℕ) → words-lts.Need-odd-words-requires-2 (
   double-words-reads.Asked,
   double-words-reads.Learnt,
 ) (words-at t) words.Post
-words-odd-words-requires-2 t c κs = 
-    let start = c .before .before .before .before .before .before .before .before .before .before .before .before .before .before .before .before .before .before .before .before .before .before .before .before .before .before in
-    let wheel = start .pre .1 .0 in
-    let n = c .before .before .before .before .before .before .before .before .before .before .before .before .before .before .words .ensures in
-    (wheel, (counted-add (omega arith) (omega arith) (wheel .some) n n
-    (omega (arith, c .before .before .before .double-words .kept, c .before .before .before .before .before .before .before .before .before .before .before .before .before .before .words .kept, start .pre)) (c .before .before .before .before .before .before .before .before .before .before .before .before .before .before .before .before .before .before .before .before .round .ensures .0) (c .before .before .before .double-words .ensures),
-    omega (arith, start .pre)))
+words-odd-words-requires-2 t c κs =
+    let at-double-words = c .before .before .before .before in
+    let way = at-double-words .before .before .before .before .before in
+    let at-words = way .before .before .before .before .before .before in
+    let start = at-words .before .before .before .before .before .before .before .before .before .before .before in
+    let pre = start .pre .1 in
+    let n = at-words .words in (
+      pre .0,
+      (
+        counted-add (omega arith) (pre .0) (n .ensures .0) (n .ensures .0)
+            (omega (arith, at-double-words .double-words .kept, n .kept, pre)) (n .ensures .1)
+            (at-double-words .double-words .ensures),
+        (round-add (omega arith) (n .ensures .1) (n .ensures .1) (c .before .onward2 .ensures .0), omega (arith, pre)),
+      ),
+    )
 
 words-same-length-4 : (t : ℕ) → words-lts.Need-same-length-4 (
-  round-reads.Asked,
-  round-reads.Learnt,
   bytes-reads.Asked,
   bytes-reads.Learnt,
   double-wide-reads.Asked,
   double-wide-reads.Learnt,
+  onward-reads.Asked,
+  onward-reads.Learnt,
   odd-words-reads.Asked,
   odd-words-reads.Learnt,
   words-below t,
@@ -241,15 +295,18 @@ words-same-length-4 : (t : ℕ) → words-lts.Need-same-length-4 (
   double-words-reads.Asked,
   double-words-reads.Learnt,
 ) (words-at t) words.Post
-words-same-length-4 t c = omega (arith, c .before .before .before .before .before .before .before .before .before .before .before .before .before .before .before .before .before .words .kept)
+words-same-length-4 t c =
+    let way = c .before .before .before .before .before .before .before .before in
+    let at-words = way .before .before .before .before .before .before .before .before .before .before in
+    omega (arith, at-words .words .kept)
 
 words-same-length-5 : (t : ℕ) → words-lts.Need-same-length-5 (
-  round-reads.Asked,
-  round-reads.Learnt,
   bytes-reads.Asked,
   bytes-reads.Learnt,
   double-wide-reads.Asked,
   double-wide-reads.Learnt,
+  onward-reads.Asked,
+  onward-reads.Learnt,
   odd-words-reads.Asked,
   odd-words-reads.Learnt,
   words-below t,
@@ -257,15 +314,18 @@ words-same-length-5 : (t : ℕ) → words-lts.Need-same-length-5 (
   double-words-reads.Asked,
   double-words-reads.Learnt,
 ) (words-at t) words.Post
-words-same-length-5 t c = omega (arith, c .before .before .before .before .before .before .before .before .before .before .before .before .before .before .before .before .before .words .kept)
+words-same-length-5 t c =
+    let way = c .before .before .before .before .before .before .before .before in
+    let at-words = way .before .before .before .before .before .before .before .before .before .before in
+    omega (arith, at-words .words .kept)
 
 words-same-length-6 : (t : ℕ) → words-lts.Need-same-length-6 (
-  round-reads.Asked,
-  round-reads.Learnt,
   bytes-reads.Asked,
   bytes-reads.Learnt,
   double-wide-reads.Asked,
   double-wide-reads.Learnt,
+  onward-reads.Asked,
+  onward-reads.Learnt,
   odd-words-reads.Asked,
   odd-words-reads.Learnt,
   words-below t,
@@ -273,15 +333,20 @@ words-same-length-6 : (t : ℕ) → words-lts.Need-same-length-6 (
   double-words-reads.Asked,
   double-words-reads.Learnt,
 ) (words-at t) words.Post
-words-same-length-6 t c = omega (arith, c .before .before .odd-words2 .kept, c .before .before .before .before .before .before .double-words .kept, c .before .before .before .before .before .before .before .before .before .before .before .before .before .before .before .before .before .words .kept)
+words-same-length-6 t c =
+    let at-odd-words2 = c .before .before in
+    let at-double-words = at-odd-words2 .before .before .before .before .before in
+    let way = at-double-words .before .before .before .before .before in
+    let at-words = way .before .before .before .before .before .before in
+    omega (arith, at-odd-words2 .odd-words2 .kept, at-double-words .double-words .kept, at-words .words .kept)
 
 words-same-length-7 : (t : ℕ) → words-lts.Need-same-length-7 (
-  round-reads.Asked,
-  round-reads.Learnt,
   bytes-reads.Asked,
   bytes-reads.Learnt,
   double-wide-reads.Asked,
   double-wide-reads.Learnt,
+  onward-reads.Asked,
+  onward-reads.Learnt,
   odd-words-reads.Asked,
   odd-words-reads.Learnt,
   words-below t,
@@ -289,15 +354,18 @@ words-same-length-7 : (t : ℕ) → words-lts.Need-same-length-7 (
   double-words-reads.Asked,
   double-words-reads.Learnt,
 ) (words-at t) words.Post
-words-same-length-7 t c = omega (arith, c .before .before .before .before .before .before .before .before .before .before .before .before .before .before .before .before .before .words .kept)
+words-same-length-7 t c =
+    let way = c .before .before .before .before .before .before .before .before in
+    let at-words = way .before .before .before .before .before .before .before .before .before .before in
+    omega (arith, at-words .words .kept)
 
 words-returns-2 : (t : ℕ) → words-lts.Need-returns-2 (
-  round-reads.Asked,
-  round-reads.Learnt,
   bytes-reads.Asked,
   bytes-reads.Learnt,
   double-wide-reads.Asked,
   double-wide-reads.Learnt,
+  onward-reads.Asked,
+  onward-reads.Learnt,
   odd-words-reads.Asked,
   odd-words-reads.Learnt,
   words-below t,
@@ -309,12 +377,12 @@ words-returns-2 t c = c .before .before .odd-words2 .ensures
 
 pub +words-spec : {M : Type 1} → statement M
 +words-spec = close μ-words λ t. words-lts.spec (
-  round-reads.Asked,
-  round-reads.Learnt,
   bytes-reads.Asked,
   bytes-reads.Learnt,
   double-wide-reads.Asked,
   double-wide-reads.Learnt,
+  onward-reads.Asked,
+  onward-reads.Learnt,
   odd-words-reads.Asked,
   odd-words-reads.Learnt,
   words-below t,
@@ -324,9 +392,9 @@ pub +words-spec : {M : Type 1} → statement M
 )
     (words-at t)
     words.Post
-    (words-round-requires t)
     (words-bytes-requires t)
     (words-double-wide-requires t)
+    (words-onward-requires t)
     (words-odd-words-requires t)
     (words-same-length t)
     (words-same-length-2 t)
@@ -334,6 +402,7 @@ pub +words-spec : {M : Type 1} → statement M
     (words-returns t)
     (words-words-requires t)
     (words-double-words-requires t)
+    (words-onward-requires-2 t)
     (words-odd-words-requires-2 t)
     (words-same-length-4 t)
     (words-same-length-5 t)

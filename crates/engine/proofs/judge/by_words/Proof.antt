@@ -1,32 +1,40 @@
 -- The first largest of the counts is their crest (`crest-of`).
 -- Assumes nothing.
 use native.Mathlib.Omega.{arith}
+use Rattle.engine.proofs.Counts.{counted-turns}
 use Rattle.engine.proofs.Crests.{crest-of, wheeled-of}
 use borrow.Author.Needs.{needs}
 use Rattle.engine.proofs.judge.by_words.Statement.{statement}
 use Rattle.engine.proofs.judge.by_words.Tie as tie
-use Rattle.engine.proofs.count.words.Reads as words-reads
-use Rattle.engine.proofs.crest.of_words.Reads as of-words-reads
-use Rattle.engine.proofs.offset.place.Reads as place-reads
-use Rattle.engine.proofs.turn.halves.Reads as halves-reads
 
 halves-requires : tie.Need-halves-requires
 halves-requires c κs = search needs
 
+rem-words : tie.Need-rem-words
+rem-words c = search needs
+
 words-requires : tie.Need-words-requires
-words-requires c κs = 
-    let start = c .before .before .before .before .before .before .before .before .before .before .before .before .before .before .before in
-    let half = c .before .before .before .before .before .before .before .halves .ensures in
-    (wheeled-of (start .pre .0) half,
-    (omega (arith, half .as-long, start .pre), (omega (arith, half .as-long, start .pre), omega (arith, start .pre))))
+words-requires c κs =
+    let at-halves = c .before .before .before .before .before .before .before in
+    let start = at-halves .before .before .before .before .before .before .before .before in
+    let pre = start .pre in
+    let half = at-halves .halves .ensures in (
+      wheeled-of (pre .0) half,
+      (omega (arith, half .as-long, pre), (omega (arith, half .as-long, pre), omega (arith, pre))),
+    )
 
 of-words-requires : tie.Need-of-words-requires
 of-words-requires c κs = search needs
 
 place-requires : tie.Need-place-requires
-place-requires c κs = 
-    let sized = c .before .before .before .before .before .before .before .before .before .before .before .before .before .before .before .before .before .before .before .before .before .before .before .before .before .before .pre .0 in
-    (sized, crest-of (sized .some) (c .before .before .before .before .before .before .before .before .before .before .before .before .before .before .before .before .before .before .halves .ensures) (c .before .before .before .before .before .before .before .before .before .before .words .ensures) (c .of-words .ensures))
+place-requires c κs =
+    let at-words = c .before .before .before .before .before .before .before .before .before .before in
+    let at-halves = at-words .before .before .before .before .before .before .before .before in
+    let start = at-halves .before .before .before .before .before .before .before .before in
+    let sized = start .pre .0 in
+    let half = at-halves .halves .ensures in
+    let counted = at-words .words .ensures .0 in
+    (sized, crest-of (sized .some) half (counted-turns (half .as-long) counted) (c .of-words .ensures))
 
 same-length : tie.Need-same-length
 same-length c = search needs
@@ -51,6 +59,7 @@ by-words-spec =
     tie.close
     (tie.spec
     halves-requires
+    rem-words
     words-requires
     of-words-requires
     place-requires

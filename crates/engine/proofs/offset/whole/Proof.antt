@@ -1,16 +1,15 @@
--- The loop's invariant: strip i stands at place p, and the strips before it fare alike (`Alike`). The measure is the strips left.
+-- The loop's invariant: strip i stands at place p, and the strips before it fare alike (`Alike`). The measure is the
+-- strips left.
 -- Assumes nothing.
-use mathlib.Core.Path.{_≡_, refl, sym, _∙_}
+use mathlib.Core.Path.{_≡_, sym, _∙_}
 use Prim.Native.Nat.{_+_, _*_, _-_, _%_, _≤_, _<_}
 use native.Mathlib.Nat.{mod-lt, mod-eq-of-lt, zero-mul, le-of-lt}
 use native.Mathlib.Omega.{arith}
 use borrow.Author.Needs.{needs}
 use lib.ListN.{length}
-use Rattle.engine.proofs.Offsets.{Alike, alike-none, alike-more, stride, whole-all, whole-not}
+use Rattle.engine.proofs.Offsets.{Alike, alike-none, alike-more, alike-round, stride, whole-all, whole-not}
 use Rattle.engine.proofs.offset.whole.Statement.{statement}
 use Rattle.engine.proofs.offset.whole.Tie as tie
-use Rattle.engine.proofs.offset.differ.Reads as differ-reads
-use Rattle.engine.proofs.offset.onward.Reads as onward-reads
 
 abbrev Inv-loop : tie.InvT-loop
 Inv-loop late h k w s p₀ i₀ p i = (p < length late) × (i ≤ k) × (p ≡ (0 + i * h) % length late) × Alike late h i
@@ -22,7 +21,7 @@ rem-s : tie.Need-rem-s Inv-loop μ-loop
 rem-s c = omega arith
 
 loop-holds : tie.Need-loop-holds Inv-loop μ-loop
-loop-holds c = 
+loop-holds c =
     let some = c .before .pre .some in
     (some, omega arith, sym (rw zero-mul (mod-eq-of-lt some)), alike-none)
 
@@ -39,30 +38,52 @@ differ-requires : tie.Need-differ-requires Inv-loop μ-loop
 differ-requires c κs = search needs
 
 returns : tie.Need-returns Inv-loop μ-loop
-returns c = 
-    let so-far = c .before .before .before .before .before .before .loop .inv in
-    whole-not (c .before .before .before .before .before .loop-test .taken) (so-far .2) (c .before .before .before .before .onward .ensures .0) (c .before .differ .ensures .0 (c .if1 .taken))
+returns c =
+    let at-onward = c .before .before .before .before in
+    let inside = at-onward .before in
+    let so-far = inside .before .loop .inv in
+    whole-not (inside .loop-test .taken) (so-far .2) (at-onward .onward .ensures .0)
+    (c .before .differ .ensures .0 (c .if1 .taken))
 
 onward-requires-2 : tie.Need-onward-requires-2 Inv-loop μ-loop
-onward-requires-2 c κs = 
+onward-requires-2 c κs =
     let some = c .before .before .before .before .before .before .before .before .pre .some in
     (omega arith, le-of-lt (mod-lt _ some), omega arith)
 
 add-i : tie.Need-add-i Inv-loop μ-loop
 add-i c = omega arith
 
+returns-2 : tie.Need-returns-2 Inv-loop μ-loop
+returns-2 c =
+    let place = c .before .onward2 .ensures in
+    let at-differ = c .before .before .before in
+    let at-onward = at-differ .before .before .before in
+    let looped = at-onward .before .before in
+    let so-far = looped .loop .inv in
+    let home = sym (c .if2 .taken) ∙ place .0 ∙ stride _ _ (looped .loop .i) _ (so-far .2) in
+    let alike = alike-more (so-far .3) (so-far .2) (at-onward .onward .ensures .0)
+    (at-differ .differ .ensures .1 (c .before .before .if1 .left)) in
+    whole-all (alike-round (omega arith) home alike)
+
 loop-less : tie.Need-loop-less Inv-loop μ-loop
 loop-less c = omega arith
 
 loop-again : tie.Need-loop-again Inv-loop μ-loop
-loop-again c = 
-    let so-far = c .before .before .before .before .before .before .before .loop .inv in
-    (c .onward2 .ensures .1, omega arith,
-    c .onward2 .ensures .0 ∙ stride _ _ (c .before .before .before .before .before .before .before .loop .i) _ (so-far .2),
-    alike-more (so-far .3) (so-far .2) (c .before .before .before .before .before .onward .ensures .0) (c .before .before .differ .ensures .1 (c .before .if1 .left)))
+loop-again c =
+    let place = c .before .onward2 .ensures in
+    let at-differ = c .before .before .before in
+    let at-onward = at-differ .before .before .before in
+    let looped = at-onward .before .before in
+    let so-far = looped .loop .inv in (
+      place .1,
+      omega arith,
+      place .0 ∙ stride _ _ (looped .loop .i) _ (so-far .2),
+      alike-more (so-far .3) (so-far .2) (at-onward .onward .ensures .0)
+          (at-differ .differ .ensures .1 (c .before .before .if1 .left)),
+    )
 
-returns-2 : tie.Need-returns-2 Inv-loop μ-loop
-returns-2 c = 
+returns-3 : tie.Need-returns-3 Inv-loop μ-loop
+returns-3 c =
     let so-far = c .before .loop .inv in
     let e : c .before .loop .i ≡ c .before .before .before .args .k = omega arith in
     whole-all (rw e at (so-far .3))
@@ -82,6 +103,7 @@ whole-spec =
     returns
     onward-requires-2
     add-i
+    returns-2
     loop-less
     loop-again
-    returns-2)
+    returns-3)

@@ -1,9 +1,9 @@
--- The loop's invariant: the places before i are passed, and j keeps pace with i (`Going`). The measure is what is left of the stretch.
+-- The loop's invariant: the places before i are passed, and j keeps pace with i (`Going`). The measure is what is
+-- left of the stretch.
 -- Assumes nothing.
-use mathlib.Core.Path.{_≡_, refl, sym, ap, _∙_}
-use Prim.Native.Nat.{_+_, _-_, _<_}
+use mathlib.Core.Path.{refl}
+use Prim.Native.Nat.{_+_, _-_}
 use native.Mathlib.Omega.{arith}
-use lib.ListN.{getD}
 use Rattle.engine.proofs.Passes.{Going, going-start, going-next, going-done}
 use Rattle.engine.proofs.pass.add.Statement.{statement}
 use Rattle.engine.proofs.pass.add.Tie as tie
@@ -24,7 +24,10 @@ shared-slice-read-sum-2 : tie.Need-shared-slice-read-sum-2 Inv-loop μ-loop
 shared-slice-read-sum-2 c = omega arith
 
 add-sum : tie.Need-add-sum Inv-loop μ-loop
-add-sum c = omega (arith, c .before .before .before .before .pre .1 .small (c .before .before .before .loop .i) (c .before .before .before .loop .j) (c .before .before .before .loop .inv .low))
+add-sum c =
+    let looped = c .before .before .before in
+    let start = looped .before in
+    omega (arith, start .pre .1 .small (looped .loop .i) (looped .loop .j) (looped .loop .inv .low))
 
 slice-write-sum : tie.Need-slice-write-sum Inv-loop μ-loop
 slice-write-sum c = omega arith
@@ -39,7 +42,11 @@ loop-less : tie.Need-loop-less Inv-loop μ-loop
 loop-less c = omega arith
 
 loop-again : tie.Need-loop-again Inv-loop μ-loop
-loop-again c = going-next (c .before .before .before .before .pre .0) (c .before .before .before .loop .inv) (c .before .before .loop-test .taken) refl
+loop-again c =
+    let inside = c .before .before in
+    let looped = inside .before in
+    let start = looped .before in
+    going-next (start .pre .0) (looped .loop .inv) (inside .loop-test .taken) refl
 
 same-length : tie.Need-same-length Inv-loop μ-loop
 same-length c = c .before .loop .inv .kept

@@ -1,15 +1,13 @@
--- The loop's invariant: the places before i are passed, and j keeps pace with i (`Going`). The measure is what is left of the stretch.
+-- The loop's invariant: the places before i are passed, and j keeps pace with i (`Going`). The measure is what is
+-- left of the stretch.
 -- Assumes nothing.
-use mathlib.Core.Path.{_≡_, refl, sym, ap, _∙_}
-use Prim.Native.Nat.{_+_, _-_, _<_}
+use Prim.Native.Nat.{_-_}
 use native.Mathlib.Omega.{arith}
-use lib.ListN.{getD}
 use Rattle.engine.proofs.Passes.{Going, going-start, going-next, going-done}
 use borrow.Author.Needs.{needs}
 use Rattle.engine.specs.Strips.{either}
 use Rattle.engine.proofs.pass.join.Statement.{statement}
 use Rattle.engine.proofs.pass.join.Tie as tie
-use Rattle.engine.proofs.pass.one_of.Reads as one-of-reads
 
 abbrev Inv-loop : tie.InvT-loop
 Inv-loop half₀ x y from to at i₀ j₀ half i j = Going either half₀ half x y from to at i j
@@ -42,7 +40,11 @@ loop-less : tie.Need-loop-less Inv-loop μ-loop
 loop-less c = omega arith
 
 loop-again : tie.Need-loop-again Inv-loop μ-loop
-loop-again c = going-next (c .before .before .before .before .before .before .before .before .pre) (c .before .before .before .before .loop .inv) (c .before .before .before .loop-test .taken) (c .one-of .ensures)
+loop-again c =
+    let inside = c .before .before .before in
+    let looped = inside .before in
+    let start = looped .before .before .before .before in
+    going-next (start .pre) (looped .loop .inv) (inside .loop-test .taken) (c .one-of .ensures)
 
 same-length : tie.Need-same-length Inv-loop μ-loop
 same-length c = c .before .loop .inv .kept

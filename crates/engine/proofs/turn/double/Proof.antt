@@ -6,7 +6,6 @@ use Rattle.engine.proofs.Passes.{turned, fit-from}
 use borrow.Author.Needs.{needs}
 use Rattle.engine.proofs.turn.double.Statement.{statement}
 use Rattle.engine.proofs.turn.double.Tie as tie
-use Rattle.engine.proofs.pass.add.Reads as add-reads
 
 sub-r : tie.Need-sub-r
 sub-r c = search needs
@@ -15,13 +14,18 @@ add-requires : tie.Need-add-requires
 add-requires c κs = search needs
 
 add-requires-2 : tie.Need-add-requires-2
-add-requires-2 c κs = (omega (arith, c), fit-from _ (c .before .before .before .before .before .before .before .pre .1))
+add-requires-2 c κs =
+    let start = c .before .before .before .before .before .before .before in
+    (omega (arith, c), fit-from _ (start .pre .1))
 
 same-length : tie.Need-same-length
 same-length c = search needs
 
 returns : tie.Need-returns
-returns c = turned refl (omega (arith, c)) (λ i l. refl) (c .before .before .before .before .before .before .add .ensures) (c .before .before .add2 .ensures)
+returns c =
+    let at-add2 = c .before .before in
+    let at-add = at-add2 .before .before .before .before in
+    turned refl (omega (arith, c)) (λ i l. refl) (at-add .add .ensures) (at-add2 .add2 .ensures)
 
 pub double-spec : {M : Type 1} → statement M
 double-spec = tie.close (tie.spec sub-r add-requires add-requires-2 same-length returns)

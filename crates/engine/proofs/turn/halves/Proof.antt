@@ -3,11 +3,10 @@
 use mathlib.Core.Path.{refl}
 use native.Mathlib.Omega.{arith}
 use Rattle.engine.proofs.Passes.{turned}
-use Rattle.engine.specs.Strips.{Halves, behind}
+use Rattle.engine.specs.Strips.{behind}
 use borrow.Author.Needs.{needs}
 use Rattle.engine.proofs.turn.halves.Statement.{statement}
 use Rattle.engine.proofs.turn.halves.Tie as tie
-use Rattle.engine.proofs.pass.join.Reads as join-reads
 
 sub-r : tie.Need-sub-r
 sub-r c = search needs
@@ -23,8 +22,10 @@ same-length c = search needs
 
 returns : tie.Need-returns
 unfolding behind
-returns c = 
-    let t = turned refl (omega (arith, c)) (λ i l. refl) (c .before .before .before .before .before .before .join .ensures) (c .before .before .join2 .ensures) in
+returns c =
+    let at-join2 = c .before .before in
+    let at-join = at-join2 .before .before .before .before in
+    let t = turned refl (omega (arith, c)) (λ i l. refl) (at-join .join .ensures) (at-join2 .join2 .ensures) in
     record { as-long = omega (arith, c); at = t .at }
 
 pub halves-spec : {M : Type 1} → statement M

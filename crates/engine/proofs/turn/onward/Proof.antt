@@ -5,8 +5,8 @@ use Prim.Native.Nat.{_+_, _-_, _%_}
 use native.Mathlib.Nat.{mod-eq-of-lt, add-mod-right}
 use native.Mathlib.Omega.{arith}
 use borrow.Author.Needs.{needs}
-use Rattle.engine.proofs.offset.onward.Statement.{statement}
-use Rattle.engine.proofs.offset.onward.Tie as tie
+use Rattle.engine.proofs.turn.onward.Statement.{statement}
+use Rattle.engine.proofs.turn.onward.Tie as tie
 
 add-q : tie.Need-add-q
 add-q c = search needs
@@ -15,7 +15,7 @@ returns : tie.Need-returns
 returns c = (sym (mod-eq-of-lt (c .if1 .taken)), c .if1 .taken)
 
 returns-2 : tie.Need-returns-2
-returns-2 c = 
+returns-2 c =
     let a = c .before .args in
     let e : a .p + a .s ≡ a .p + a .s - a .w + a .w = omega arith in
     let once : (a .p + a .s) % a .w ≡ a .p + a .s - a .w =

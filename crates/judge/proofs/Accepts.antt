@@ -1,0 +1,93 @@
+-- What the refusals rule out: a record with none is a good job, and every refusal of its body is 3 or more. Assumes nothing.
+use mathlib.Core.Path.{_≡_, refl, sym, ap, _∙_}
+use mathlib.Core.Logic.{_⊎_, inl, inr, ⊎-elim}
+use mathlib.Core.Bool.{Bool, true, false}
+use mathlib.Core.List.{List}
+use Prim.Native.Nat.{ℕ, zero, suc, _+_, _/_, _≤_, _<_}
+use native.Mathlib.Nat.{zero-lt-suc}
+use native.Mathlib.Omega.{arith}
+use lib.Dec.{lit<}
+use lib.ListN.{length}
+use borrow.Author.Tests.{ltb-false}
+use Rattle.rules.specs.Usable.{Slot}
+use Rattle.limits.specs.Refusal.{_when_, _otherwise_}
+use Rattle.limits.specs.Limits.{wheelRefusal, taskRefusal, mostTicks, mostNeed, mostPeriod, mostStrips}
+use Rattle.limits.specs.declared.Task.{Task}
+use Rattle.limits.proofs.Refusals.{both-none, when-none, when-true, when-false, otherwise-none, otherwise-some, inside}
+use Rattle.records.specs.Records.{slotBytes, slotAt}
+use Rattle.records.specs.Refusals.{range, slotRefusal, endBefore, firstBad, slotsRefusal, boardRefusal, bodyRefusal, jobOf}
+use Rattle.records.specs.declared.TaskRecord.{TaskRecord}
+use Rattle.counts.specs.Counts.{Within}
+use Rattle.judge.specs.Jobs.{Good}
+
+-- ---- a record with no refusal is a good job
+
+task-within : (r : TaskRecord) → taskRefusal (r .e) (r .d) (r .h) (r .m) (r .k) ≡ 0 → Within (jobOf r .task) × (r .m ≤ r .k)
+unfolding taskRefusal
+task-within r e =
+    let six = both-none _ _ e in
+    let seven = both-none _ _ (six .1) in
+    let eight = both-none _ _ (seven .1) in
+    let nine = both-none _ _ (eight .1) in
+    let need = inside (r .e) mostNeed (when-none 6 _ (zero-lt-suc 5) (six .0)) in
+    let period = inside (r .h) mostPeriod (when-none 7 _ (zero-lt-suc 6) (seven .0)) in
+    let deadline = inside (r .d) (r .h) (when-none 8 _ (zero-lt-suc 7) (eight .0)) in
+    let strips = inside (r .k) mostStrips (when-none 9 _ (zero-lt-suc 8) (nine .0)) in (
+      record { need = need .1; deadline = omega (arith, deadline .1, period .1); period = period .1; strips = strips .1 },
+      ltb-false _ _ (when-none 10 _ (zero-lt-suc 9) (nine .1)),
+    )
+
+pub good-job : (r : TaskRecord) (l : List ℕ) → bodyRefusal r l ≡ 0 → Good l (jobOf r)
+unfolding bodyRefusal boardRefusal range slotsRefusal wheelRefusal
+good-job r l e =
+    let parts = both-none _ _ e in
+    let far = both-none _ _ (parts .0) in
+    let wheel = both-none _ _ (far .1) in
+    let ticks = inside (r .w) mostTicks (when-none 4 _ (zero-lt-suc 3) (wheel .0)) in
+    let task = task-within r (parts .1) in
+    record {
+      part = ltb-false _ _ (when-none 3 _ (zero-lt-suc 2) (far .0));
+      table = both-none _ _ (wheel .1) .1;
+      some = ticks .0;
+      most = ticks .1;
+      within = task .0;
+      painted = task .1;
+    }
+
+-- ---- the body's refusals are 3 or more
+
+High : ℕ → Type 0
+High n = (n ≡ 0) ⊎ (2 < n)
+
+high-when : (n : ℕ) (t : Bool) → 2 < n → High (n when t)
+unfolding High
+high-when n true l = inr (rw (when-true n true refl) l)
+high-when n false l = inl (when-false n false refl)
+
+high-otherwise : (a b : ℕ) → High a → High b → High (a otherwise b)
+unfolding High _otherwise_
+high-otherwise zero b p q = q
+high-otherwise (suc a) b p q = p
+
+high-bad : (w : ℕ) (slot : ℕ → Slot) (n : ℕ) → High (firstBad w slot n)
+unfolding High firstBad slotRefusal
+high-bad w slot zero = inl refl
+high-bad w slot (suc n) =
+    high-otherwise _ _ (high-bad w slot n)
+    (high-otherwise _ _ (high-when 5 _ (lit< tt)) (high-otherwise _ _ (high-when 5 _ (lit< tt)) (high-when 5 _ (lit< tt))))
+
+high-body : (r : TaskRecord) (l : List ℕ) → High (bodyRefusal r l)
+unfolding bodyRefusal boardRefusal range slotsRefusal wheelRefusal taskRefusal
+high-body r l =
+    high-otherwise _ _
+    (high-otherwise _ _ (high-when 3 _ (lit< tt))
+    (high-otherwise _ _ (high-when 4 _ (lit< tt))
+    (high-otherwise _ _ (high-when 5 _ (lit< tt)) (high-bad _ _ _))))
+    (high-otherwise _ _ (high-when 6 _ (lit< tt))
+    (high-otherwise _ _ (high-when 7 _ (lit< tt))
+    (high-otherwise _ _ (high-when 8 _ (lit< tt))
+    (high-otherwise _ _ (high-when 9 _ (lit< tt)) (high-when 10 _ (lit< tt))))))
+
+pub body-high : (r : TaskRecord) (l : List ℕ) (n : ℕ) → n ≡ bodyRefusal r l → (n ≡ 0 → ⊥) → 2 < n
+unfolding High
+body-high r l n e bad = ⊎-elim (λ z. absurd (bad (e ∙ z))) (λ h. rw e h) (high-body r l)

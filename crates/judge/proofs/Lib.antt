@@ -1,0 +1,3 @@
+pub mod Accepts
+pub mod Replies
+pub mod Looks

@@ -1,0 +1,26 @@
+-- `judge::write` meets its contract: the bytes that were made are put over the reply. Assumes nothing.
+use mathlib.Core.Path.{_≡_, refl, sym, ap, _∙_}
+use denote.Ref.{now}
+use Rattle.octets.specs.Octets.{over}
+use borrow.Author.Needs.{needs}
+use Rattle.judge.proofs.write.Statement.{statement}
+use Rattle.judge.proofs.write.Tie as tie
+
+bytes-requires : tie.Need-bytes-requires
+bytes-requires c κs = search needs
+
+slice-aggregate-put : tie.Need-slice-aggregate-put
+slice-aggregate-put c = search needs
+
+put-requires : tie.Need-put-requires
+put-requires c κs = search needs
+
+same-length : tie.Need-same-length
+same-length c = search needs
+
+returns : tie.Need-returns
+returns c = c .before .before .put .ensures ∙ ap (λ x. over x (now (c .before .before .before .before .before .before .before .args .reply))) (c .before .before .before .before .before .bytes .ensures)
+
+pub write-spec : {M : Type 1} → statement M
+write-spec =
+    tie.close (tie.spec bytes-requires slice-aggregate-put put-requires same-length returns)

@@ -1,0 +1,3 @@
+pub mod Jobs
+pub mod Judge
+pub mod Points

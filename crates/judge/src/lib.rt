@@ -1,0 +1,159 @@
+// The public questions of a task record and a slot buffer. Every byte string gets its reply: bad records are refused by number, in document
+// 01's order, and a refusal writes only what the paper names.
+mod peak;
+mod point;
+
+ghost use mathlib.Core.Path.{_≡_};
+ghost use Prim.Native.Nat.{_≤_};
+ghost use lib.ListN.{length};
+ghost use Rattle.limits.specs.Limits.{asked};
+ghost use Rattle.octets.specs.Octets.{over};
+ghost use Rattle.rules.specs.Sums.{bit};
+ghost use Rattle.rules.specs.Worst.{firmTest};
+ghost use Rattle.records.specs.Records.{replyBytes, answerBytes};
+ghost use Rattle.records.specs.Refusals.{pointRefusal};
+ghost use Rattle.judge.specs.Judge.{Judged};
+ghost use Rattle.judge.specs.Points.{suppliedAt, droppedAt, countedAt};
+use crate::point::Gate;
+use limits::Task;
+use records::Checked;
+use records::answer::Answer;
+
+pub struct Supplied {
+    pub number: u32,
+    pub supply: u64,
+}
+
+pub struct Tested {
+    pub number: u32,
+    pub dropped: bool,
+}
+
+pub struct Counted {
+    pub number: u32,
+    pub count: u32,
+}
+
+// Rule 7's test: 1 for firm, else 0.
+fn firm(task: Task, drops: u32) -> u32
+    requires { ⌜ task .m ≤ task .k ⌝ }
+    ensures { λ r. ⌜ r ≡ bit (firmTest (asked task) drops) ⌝ }
+{
+    if (drops as usize) <= task.k - task.m {
+        1
+    } else {
+        0
+    }
+}
+
+// Writes an answer over the first 16 reply bytes.
+fn write(reply: &mut [u8], a: Answer)
+    requires { ⌜ replyBytes ≤ length (now reply) ⌝ }
+    ensures { λ _. ⌜ now (reply .exit) ≡ over (answerBytes (a .id) (a .number) (a .firm) (a .drops) (a .offset)) (now (reply .entry)) ⌝ }
+{
+    let bytes = records::answer::bytes(a);
+    octets::put(reply, &bytes);
+}
+
+// Judges one task record on a slot buffer and writes the answer record. Refusals 1 and 2 write nothing.
+pub fn judge(task: &[u8], slots: &[u8], reply: &mut [u8]) -> u32
+    ensures { λ r. ⌜ Judged (now (task .entry)) (now (slots .entry)) (now (reply .entry)) r (now (reply .exit)) ⌝ }
+{
+    let n = records::sizes(task, slots);
+    if n != 0 {
+        return n;
+    }
+    if reply.len() < 16 {
+        return 2;
+    }
+    let r = records::read(task);
+    let id = r.id;
+    match records::check(r, slots) {
+        Checked::Refused(bad) => {
+            write(
+                reply,
+                Answer {
+                    id,
+                    number: bad,
+                    firm: 0,
+                    drops: 0,
+                    offset: 0,
+                },
+            );
+            bad
+        }
+        Checked::Accepted(job) => {
+            let p = peak::peak(slots, job);
+            let f = firm(job.task, p.drops);
+            write(
+                reply,
+                Answer {
+                    id,
+                    number: 0,
+                    firm: f,
+                    drops: p.drops,
+                    offset: p.offset,
+                },
+            );
+            0
+        }
+    }
+}
+
+// The supply at a half tick, in half ticks, or 0 beside the refusal.
+pub fn supply(task: &[u8], slots: &[u8], offset: u64) -> Supplied
+    ensures { λ r. ⌜ (r .number ≡ pointRefusal (now (task .entry)) (now (slots .entry)) offset) × (r .supply ≡ suppliedAt (now (task .entry)) (now (slots .entry)) offset) ⌝ }
+{
+    match point::enter(task, slots, offset) {
+        Gate::Shut(n) => Supplied {
+            number: n,
+            supply: 0,
+        },
+        Gate::Open(job) => {
+            let seen = point::look(slots, job, offset as usize, 0);
+            Supplied {
+                number: 0,
+                supply: seen.supply as u64,
+            }
+        }
+    }
+}
+
+// Whether a strip at a half tick is dropped, or "not dropped" beside the refusal.
+pub fn drop_test(task: &[u8], slots: &[u8], offset: u64) -> Tested
+    ensures { λ r. ⌜ (r .number ≡ pointRefusal (now (task .entry)) (now (slots .entry)) offset) × (r .dropped ≡ droppedAt (now (task .entry)) (now (slots .entry)) offset) ⌝ }
+{
+    match point::enter(task, slots, offset) {
+        Gate::Shut(n) => Tested {
+            number: n,
+            dropped: false,
+        },
+        Gate::Open(job) => {
+            let seen = point::look(slots, job, offset as usize, 1);
+            Tested {
+                number: 0,
+                dropped: seen.drops == 1,
+            }
+        }
+    }
+}
+
+// The drop count from a half tick, or 0 beside the refusal.
+pub fn count(task: &[u8], slots: &[u8], offset: u64) -> Counted
+    ensures { λ r. ⌜ (r .number ≡ pointRefusal (now (task .entry)) (now (slots .entry)) offset) × (r .count ≡ countedAt (now (task .entry)) (now (slots .entry)) offset) ⌝ }
+{
+    match point::enter(task, slots, offset) {
+        Gate::Shut(n) => Counted {
+            number: n,
+            count: 0,
+        },
+        Gate::Open(job) => {
+            let asked = job.task;
+            let seen = point::look(slots, job, offset as usize, asked.k);
+            Counted {
+                number: 0,
+                count: seen.drops as u32,
+            }
+        }
+    }
+}
