@@ -1,3 +1,4 @@
 pub mod Windows
 pub mod Halves
 pub mod Maps
+pub mod Tasks

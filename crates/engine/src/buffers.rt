@@ -219,7 +219,7 @@ fn words_16384(late: &[u8], h: usize, k: usize) -> Peak
     )
 }
 
-// The largest frame. Two calls lead here, as to `wider`: a function called once is inlined, and its frame with it.
+// Two calls lead to each of the next two: a function called once is inlined, and its frame with it.
 fn widest(late: &[u8], h: usize, k: usize) -> Peak
     requires { ⌜ Sized (now late) h k ⌝ }
     requires { ⌜ 0 < k ⌝ }
@@ -240,7 +240,7 @@ fn widest(late: &[u8], h: usize, k: usize) -> Peak
 
 fn wider(late: &[u8], h: usize, k: usize) -> Peak
     requires { ⌜ Sized (now late) h k ⌝ }
-    requires { ⌜ 0 < k ⌝ }
+    requires { ⌜ (length (now late) ≤ 4096) × (0 < k) ⌝ }
     ensures { λ r. ⌜ Peaks (now (late .entry)) h k (r .drops) (r .offset) ⌝ }
 {
     let w = late.len();
@@ -248,18 +248,12 @@ fn wider(late: &[u8], h: usize, k: usize) -> Peak
         if w <= 2048 {
             return bytes_2048(late, h, k);
         }
-        if w <= 4096 {
-            return bytes_4096(late, h, k);
-        }
-        return widest(late, h, k);
+        return bytes_4096(late, h, k);
     }
     if w <= 2048 {
         return words_2048(late, h, k);
     }
-    if w <= 4096 {
-        return words_4096(late, h, k);
-    }
-    widest(late, h, k)
+    words_4096(late, h, k)
 }
 
 pub fn fitting(late: &[u8], h: usize, k: usize) -> Peak
@@ -272,10 +266,16 @@ pub fn fitting(late: &[u8], h: usize, k: usize) -> Peak
         if w <= 256 {
             return bytes_256(late, h, k);
         }
-        return wider(late, h, k);
+        if w <= 4096 {
+            return wider(late, h, k);
+        }
+        return widest(late, h, k);
     }
     if w <= 256 {
         return words_256(late, h, k);
     }
-    wider(late, h, k)
+    if w <= 4096 {
+        return wider(late, h, k);
+    }
+    widest(late, h, k)
 }

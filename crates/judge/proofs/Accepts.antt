@@ -11,40 +11,24 @@ use lib.ListN.{length}
 use borrow.Author.Tests.{ltb-false}
 use Rattle.rules.specs.Usable.{Slot}
 use Rattle.limits.specs.Refusal.{_when_, _otherwise_}
-use Rattle.limits.specs.Limits.{wheelRefusal, taskRefusal, mostTicks, mostNeed, mostPeriod, mostStrips}
-use Rattle.limits.specs.declared.Task.{Task}
-use Rattle.limits.proofs.Refusals.{both-none, when-none, when-true, when-false, otherwise-none, otherwise-some, inside}
+use Rattle.limits.specs.Limits.{wheelRefusal, taskRefusal, taskRefusalOf, mostTicks}
+use Rattle.limits.proofs.Refusals.{both-none, when-none, when-true, when-false, inside}
 use Rattle.records.specs.Records.{slotBytes, slotAt}
 use Rattle.records.specs.Refusals.{range, slotRefusal, endBefore, firstBad, slotsRefusal, boardRefusal, bodyRefusal, jobOf}
 use Rattle.records.specs.declared.TaskRecord.{TaskRecord}
-use Rattle.counts.specs.Counts.{Within}
+use Rattle.counts.proofs.Tasks.{accepted}
 use Rattle.judge.specs.Jobs.{Good}
 
 -- ---- a record with no refusal is a good job
 
-task-within : (r : TaskRecord) → taskRefusal (r .e) (r .d) (r .h) (r .m) (r .k) ≡ 0 → Within (jobOf r .task) × (r .m ≤ r .k)
-unfolding taskRefusal
-task-within r e =
-    let six = both-none _ _ e in
-    let seven = both-none _ _ (six .1) in
-    let eight = both-none _ _ (seven .1) in
-    let nine = both-none _ _ (eight .1) in
-    let need = inside (r .e) mostNeed (when-none 6 _ (zero-lt-suc 5) (six .0)) in
-    let period = inside (r .h) mostPeriod (when-none 7 _ (zero-lt-suc 6) (seven .0)) in
-    let deadline = inside (r .d) (r .h) (when-none 8 _ (zero-lt-suc 7) (eight .0)) in
-    let strips = inside (r .k) mostStrips (when-none 9 _ (zero-lt-suc 8) (nine .0)) in (
-      record { need = need .1; deadline = omega (arith, deadline .1, period .1); period = period .1; strips = strips .1 },
-      ltb-false _ _ (when-none 10 _ (zero-lt-suc 9) (nine .1)),
-    )
-
 pub good-job : (r : TaskRecord) (l : List ℕ) → bodyRefusal r l ≡ 0 → Good l (jobOf r)
-unfolding bodyRefusal boardRefusal range slotsRefusal wheelRefusal
+unfolding bodyRefusal boardRefusal range slotsRefusal wheelRefusal taskRefusalOf
 good-job r l e =
     let parts = both-none _ _ e in
     let far = both-none _ _ (parts .0) in
     let wheel = both-none _ _ (far .1) in
     let ticks = inside (r .w) mostTicks (when-none 4 _ (zero-lt-suc 3) (wheel .0)) in
-    let task = task-within r (parts .1) in
+    let task = accepted (jobOf r .task) (parts .1) in
     record {
       part = ltb-false _ _ (when-none 3 _ (zero-lt-suc 2) (far .0));
       table = both-none _ _ (wheel .1) .1;

@@ -46,7 +46,7 @@ pub fn fill(slots: &[u8], first: usize, count: usize, w: usize, total: &mut [u16
 }
 
 // 1 for a free mark, 0 for any other.
-fn free(mark: u8) -> usize
+pub fn free(mark: u8) -> usize
     ensures { λ r. ⌜ r ≡ bit (eqb mark 1) ⌝ }
 {
     if mark == 1 { 1 } else { 0 }

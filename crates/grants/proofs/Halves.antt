@@ -1,0 +1,103 @@
+-- The search by halves: more slots never hurt, so what isn't firm rules out every smaller number. Assumes nothing.
+use mathlib.Core.Path.{_≡_, refl, sym, ap, _∙_}
+use mathlib.Core.Bool.{Bool, true, false, _&&_, and-false}
+use mathlib.Core.List.{List}
+use Prim.Native.Nat.{ℕ, zero, suc, _+_, _-_, _*_, _/_, _%_, _≤_, _<_}
+use native.Mathlib.Nat.{le-trans, mul-one, mul-zero, mul-pos}
+use native.Mathlib.Omega.{arith}
+use lib.Dec.{ltb}
+use lib.ListN.{length}
+use borrow.Author.Tests.{lt-ltb, le-ltb}
+use Rattle.rules.specs.Sums.{Subset, bit, any, number}
+use Rattle.rules.specs.Supply.{Task, supply, dropped, drops, count}
+use Rattle.rules.specs.Usable.{usable, grid, covers}
+use Rattle.rules.specs.Worst.{Firm}
+use Rattle.rules.specs.Grant.{first, gridTicks, Granted, NoChoice}
+use Rattle.rules.proofs.Sums.{any-none, number-const, number-le, le-or-lt}
+use Rattle.rules.proofs.More.{firm-mono}
+use Rattle.rules.proofs.Grants.{grid-mono, first-mono, no-choice}
+use Rattle.ticks.specs.Total.{freeOf}
+use Rattle.grants.specs.Grants.{FirmSays, Halving}
+
+module _ (l : List ℕ) (v : ℕ) (t : Task) where
+  abbrev FirmAt : ℕ → Type 0
+  FirmAt j = Firm (gridTicks (length l) v (first (freeOf l) j)) t
+
+  pub more-firm : (i j : ℕ) → i ≤ j → FirmAt i → FirmAt j
+  more-firm i j le firm = firm-mono _ _ t (grid-mono (length l) v _ _ (λ x _. first-mono (freeOf l) i j le x)) firm
+
+  pub halve-down : (low high mid : ℕ) → Halving l v t low high → low ≤ mid → mid ≤ high → FirmAt mid → Halving l v t low mid
+  halve-down low high mid h a b firm =
+      record { order = a; enough = le-trans b (h .enough); firm = firm; least = h .least }
+
+  pub halve-up : (low high mid : ℕ) → Halving l v t low high → mid < high → (FirmAt mid → ⊥) → Halving l v t (mid + 1) high
+  halve-up low high mid h a not =
+      record {
+        order = omega arith;
+        enough = h .enough;
+        firm = h .firm;
+        least = λ i less firm. not (more-firm i mid (omega arith) firm);
+      }
+
+  pub halve-end : (j : ℕ) → Halving l v t j j → Granted (length l) v (freeOf l) t j
+  halve-end j h =
+      record {
+        enough = h .enough;
+        firm = h .firm;
+        smallest = λ i firm. let n : ¬ (i < j) = λ less. h .least i less firm in omega arith;
+      }
+
+  -- ---- m 0, and no slots
+
+  -- With m 0 every table is firm.
+  all-firm : (u : Subset) → t .m ≡ 0 → Firm u t
+  unfolding Firm count drops
+  all-firm u zero-m q p pos = omega (arith, number-le (λ i. dropped q u t (p + i * (q * t .h))) (t .k))
+
+  pub grant-none : t .m ≡ 0 → Granted (length l) v (freeOf l) t 0
+  grant-none zero-m =
+      record { enough = omega arith; firm = all-firm _ zero-m; smallest = λ i firm. omega arith }
+
+  -- No slots, no ticks: every strip is dropped.
+  empty-ticks : (x : ℕ) → gridTicks (length l) v (first (freeOf l) 0) x ≡ false
+  unfolding gridTicks usable grid first
+  empty-ticks x =
+      any-none _ (length l) (λ i less.
+      let inside : Bool = covers (record { start = i * v; end = (i + 1) * v }) (x % (length l * v)) in
+      ap (λ b. (freeOf l i && b) && inside) (le-ltb (number (freeOf l) i) 0 (omega arith))
+      ∙ ap (λ b. b && inside) (and-false (freeOf l i)))
+
+  empty-drops : 0 < t .e → (x : ℕ) → dropped 1 (gridTicks (length l) v (first (freeOf l) 0)) t x ≡ true
+  unfolding dropped supply bit
+  empty-drops need x =
+      let none : number (λ i. gridTicks (length l) v (first (freeOf l) 0) ((x + i) / 1)) (1 * t .D) ≡ (1 * t .D) * 0 =
+      number-const _ false (1 * t .D) (λ i less. empty-ticks ((x + i) / 1)) in
+      let less : number (λ i. gridTicks (length l) v (first (freeOf l) 0) ((x + i) / 1)) (1 * t .D) < 1 * t .e =
+      omega (arith, mul-zero (1 * t .D)) in
+      lt-ltb _ _ less
+
+  pub no-slots : 0 < t .e → 0 < t .m → t .m ≤ t .k → FirmAt 0 → ⊥
+  unfolding Firm count drops bit
+  no-slots need some few firm =
+      let all : number (λ i. dropped 1 (gridTicks (length l) v (first (freeOf l) 0)) t (0 + i * (1 * t .h))) (t .k) ≡ t .k * 1 =
+      number-const _ true (t .k) (λ i less. empty-drops need (0 + i * (1 * t .h))) in
+      omega (arith, firm 1 0 (omega arith), mul-one (t .k))
+
+  -- ---- the start of the search
+
+  pub halve-start :
+      (all : ℕ) → all ≡ number (freeOf l) (length l) → 0 < all → 0 < t .e → 0 < t .m → t .m ≤ t .k → FirmAt all → Halving l v t 1 all
+  halve-start all e some need m few firm =
+      record {
+        order = some;
+        enough = omega arith;
+        firm = firm;
+        least = λ i less f. no-slots need m few (more-firm i 0 (omega arith) f);
+      }
+
+  pub none-free : (all : ℕ) → all ≡ 0 → 0 < t .e → 0 < t .m → t .m ≤ t .k → FirmAt all → ⊥
+  none-free all z need m few firm = no-slots need m few (more-firm all 0 (omega arith) firm)
+
+  pub nothing-firm : (all : ℕ) → all ≡ number (freeOf l) (length l) → (FirmAt all → ⊥) → NoChoice (length l) v (freeOf l) t
+  nothing-firm all e not =
+      no-choice (length l) v (freeOf l) t (λ firm. not (more-firm _ all (omega arith) firm))

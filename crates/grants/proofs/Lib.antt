@@ -1,0 +1,4 @@
+pub mod Bytes
+pub mod Trials
+pub mod Halves
+pub mod Calls

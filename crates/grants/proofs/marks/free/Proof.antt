@@ -1,0 +1,55 @@
+-- `grants::marks::free` meets its contract. The loop's invariant: n of the marks below i are free. The measure is what is
+-- left of the marks. The laws are in proofs/Bytes.antt. Assumes nothing.
+use Prim.Native.Nat.{_-_}
+use lib.Dec.{eqb}
+use lib.ListN.{length, getD}
+use Rattle.rules.proofs.Sums.{bit-le}
+use Rattle.grants.proofs.Bytes.{Numbered, numbered-none, numbered-more, numbered-all}
+use native.Mathlib.Omega.{arith}
+use Rattle.grants.proofs.marks.free.Statement.{statement}
+use Rattle.grants.proofs.marks.free.Tie as tie
+
+abbrev Inv-loop : tie.InvT-loop
+Inv-loop marks n₀ i₀ n i = Numbered marks n i
+
+abbrev μ-loop : tie.MeasureT-loop
+μ-loop marks n₀ i₀ n i = length marks - i
+
+loop-holds : tie.Need-loop-holds Inv-loop μ-loop
+loop-holds c = numbered-none _
+
+shared-slice-read-free : tie.Need-shared-slice-read-free Inv-loop μ-loop
+shared-slice-read-free c = omega arith
+
+free-requires : tie.Need-free-requires Inv-loop μ-loop
+free-requires c κs = tt
+
+add-n : tie.Need-add-n Inv-loop μ-loop
+add-n c = omega (arith, c .before .before .before .loop .inv .few, c .free .ensures, bit-le (eqb (getD (c .before .before .before .before .before .args .marks .now) (c .before .before .before .loop .i) 0) 1))
+
+add-i : tie.Need-add-i Inv-loop μ-loop
+add-i c = omega arith
+
+loop-less : tie.Need-loop-less Inv-loop μ-loop
+loop-less c = omega arith
+
+loop-again : tie.Need-loop-again Inv-loop μ-loop
+loop-again c = numbered-more _ _ _ _ (c .before .before .before .loop .inv) (omega arith) (c .free .ensures)
+
+returns : tie.Need-returns Inv-loop μ-loop
+returns c = numbered-all _ _ _ (c .before .loop .inv) (omega arith)
+
+pub free-spec : {M : Type 1} → statement M
+free-spec =
+    tie.close
+    (tie.spec
+    Inv-loop
+    μ-loop
+    loop-holds
+    shared-slice-read-free
+    free-requires
+    add-n
+    add-i
+    loop-less
+    loop-again
+    returns)

@@ -1,0 +1,68 @@
+-- `grants::marks::give` meets its contract. The loop's invariant: the marks below i are as after the grant, those from i on as
+-- before, and `seen` of the first i were free. The measure is what is left of the marks. The laws are in proofs/Bytes.antt.
+-- Assumes nothing.
+use Prim.Native.Nat.{_-_}
+use lib.Dec.{eqb}
+use lib.ListN.{length, getD, length-set}
+use Rattle.rules.proofs.Sums.{bit-le}
+use Rattle.grants.proofs.Bytes.{Giving, giving-none, giving-more, giving-all}
+use native.Mathlib.Omega.{arith}
+use Rattle.grants.proofs.marks.give.Statement.{statement}
+use Rattle.grants.proofs.marks.give.Tie as tie
+
+abbrev Inv-loop : tie.InvT-loop
+Inv-loop marks₀ j seen₀ i₀ marks seen i = Giving marks₀ j marks seen i
+
+abbrev μ-loop : tie.MeasureT-loop
+μ-loop marks₀ j seen₀ i₀ marks seen i = length marks - i
+
+loop-holds : tie.Need-loop-holds Inv-loop μ-loop
+loop-holds c = giving-none _ _
+
+slice-read-mark : tie.Need-slice-read-mark Inv-loop μ-loop
+slice-read-mark c = omega arith
+
+after-requires : tie.Need-after-requires Inv-loop μ-loop
+after-requires c κs = tt
+
+slice-write-marks : tie.Need-slice-write-marks Inv-loop μ-loop
+slice-write-marks c = omega arith
+
+free-requires : tie.Need-free-requires Inv-loop μ-loop
+free-requires c κs = tt
+
+add-seen : tie.Need-add-seen Inv-loop μ-loop
+add-seen c = omega (arith, c .before .before .before .before .loop .inv .numbered .few, c .before .before .before .before .loop .inv .numbered .upto, c .free .ensures, bit-le (eqb (getD (c .before .before .before .before .loop .marks) (c .before .before .before .before .loop .i) 0) 1))
+
+add-i : tie.Need-add-i Inv-loop μ-loop
+add-i c = omega arith
+
+loop-less : tie.Need-loop-less Inv-loop μ-loop
+loop-less c = omega (arith, length-set (c .before .before .before .before .loop .marks) (c .before .before .before .before .loop .i) (c .before .after .result))
+
+loop-again : tie.Need-loop-again Inv-loop μ-loop
+loop-again c = giving-more _ _ _ _ _ _ _ (c .before .before .before .before .loop .inv) (omega arith) (c .before .after .ensures) (c .free .ensures)
+
+same-length : tie.Need-same-length Inv-loop μ-loop
+same-length c = c .before .loop .inv .long
+
+returns : tie.Need-returns Inv-loop μ-loop
+returns c = giving-all _ _ _ _ _ (c .before .loop .inv) (omega arith)
+
+pub give-spec : {M : Type 1} → statement M
+give-spec =
+    tie.close
+    (tie.spec
+    Inv-loop
+    μ-loop
+    loop-holds
+    slice-read-mark
+    after-requires
+    slice-write-marks
+    free-requires
+    add-seen
+    add-i
+    loop-less
+    loop-again
+    same-length
+    returns)
