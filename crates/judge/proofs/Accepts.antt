@@ -34,8 +34,8 @@ good-job r l e =
       table = both-none _ _ (wheel .1) .1;
       some = ticks .0;
       most = ticks .1;
-      within = task .0;
-      painted = task .1;
+      within = task .within;
+      painted = task .painted;
     }
 
 -- ---- the body's refusals are 3 or more

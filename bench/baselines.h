@@ -1,0 +1,45 @@
+/*
+ * What the archive is measured against. Both baselines take the same bytes as
+ * fiddlequill_judge, refuse alike, and write the same answer record.
+ */
+#ifndef BASELINES_H
+#define BASELINES_H
+
+#include "fiddlequill.h"
+
+/* A task and its slots, read and accepted. */
+struct plan {
+    uint32_t id, w, e, D, h, m, k, slots;
+    uint32_t start[FIDDLEQUILL_SLOTS_MAX], end[FIDDLEQUILL_SLOTS_MAX];
+};
+
+/* Refusals 1, 3 to 10; fills the plan where it gives 0. */
+uint32_t plan_read(struct plan *plan, const uint8_t *task, size_t task_len, const uint8_t *slots, size_t slots_len);
+void plan_answer(const struct plan *plan, uint32_t number, uint32_t worst, uint32_t offset, uint8_t *reply);
+
+/* The published Finite-Point method, in pieces so that a few candidates can be timed alone. */
+struct fp {
+    struct plan plan;
+    uint32_t turn, rest, whole; /* half ticks: the wheel, the window beyond whole turns, the supply of those */
+    uint32_t zones;
+    uint32_t zone[FIDDLEQUILL_WHEEL_MAX]; /* ticks where a miss zone starts */
+};
+
+void fp_open(struct fp *fp, const struct plan *plan);
+/* The candidate of zone start i of fp->zone and strip n, in half ticks. */
+uint32_t fp_candidate(const struct fp *fp, uint32_t i, uint32_t n);
+/* Drops from a half tick. */
+uint32_t fp_count(const struct fp *fp, uint32_t offset);
+/* Least and largest supply over the wheel's ticks, in ticks. */
+void fp_supplies(const struct fp *fp, uint32_t *least, uint32_t *largest);
+uint32_t fp_judge(const uint8_t *task, size_t task_len, const uint8_t *slots, size_t slots_len, uint8_t *reply,
+                  size_t reply_len);
+
+/* Doubling in its plain form: 16-bit counts, natural order. */
+uint32_t doubling_judge(const uint8_t *task, size_t task_len, const uint8_t *slots, size_t slots_len, uint8_t *reply,
+                        size_t reply_len);
+
+/* Clears n bytes and reads them. */
+uint32_t floor_pass(uint8_t *bytes, size_t n);
+
+#endif

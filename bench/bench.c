@@ -1,0 +1,423 @@
+/*
+ * Side by side, in one run and taking turns: the published Finite-Point method
+ * (FP), plain doubling in C, the archive, and a floor. Every case compares the
+ * answers; the exit status depends on that alone, never on a time.
+ *
+ *   bench FOLDER           prints the report, writes FOLDER/RESULTS.md and results.csv
+ *   bench --once W SLOTS K calls each kind once, for counting instructions
+ */
+#define _POSIX_C_SOURCE 200809L
+
+#include "bytes.h"
+#include "files.h"
+#include "results.h"
+
+#include <inttypes.h>
+#include <stdio.h>
+#include <stdlib.h>
+#include <string.h>
+#include <time.h>
+
+#define LENGTH(array) (sizeof(array) / sizeof *(array))
+
+/* ---- timing ---- */
+
+/* Processor time, not wall time: other work on the machine would fall on the longer batches and lift FP's times. */
+static double now_ns(void)
+{
+    struct timespec t;
+    clock_gettime(CLOCK_THREAD_CPUTIME_ID, &t);
+    return (double)t.tv_sec * 1e9 + (double)t.tv_nsec;
+}
+
+static int compare_times(const void *a, const void *b)
+{
+    double x = *(const double *)a, y = *(const double *)b;
+    return (x > y) - (x < y);
+}
+
+static double median(double *times)
+{
+    qsort(times, ROUNDS, sizeof *times, compare_times);
+    return times[ROUNDS / 2];
+}
+
+/* Upper quartile over lower quartile of sorted times: 1 is a quiet run. */
+static double spread(const double *sorted)
+{
+    return sorted[ROUNDS * 3 / 4] / sorted[ROUNDS / 4];
+}
+
+typedef void (*job)(void *context);
+
+struct contender {
+    job run;
+    void *context;
+    uint64_t repeats;
+    double times[ROUNDS];
+};
+
+static double time_job(const struct contender *c)
+{
+    double start = now_ns();
+    for (uint64_t i = 0; i < c->repeats; i++)
+        c->run(c->context);
+    return (now_ns() - start) / (double)c->repeats;
+}
+
+static void calibrate(struct contender *c)
+{
+    c->repeats = 1;
+    while (time_job(c) * (double)c->repeats < batch_ns)
+        c->repeats *= 2;
+}
+
+/* Contenders take turns, so that a slow moment of the machine falls on all. */
+static void take_turns(struct contender *contenders, size_t n)
+{
+    for (size_t i = 0; i < n; i++)
+        calibrate(&contenders[i]);
+    for (size_t round = 0; round < ROUNDS; round++)
+        for (size_t i = 0; i < n; i++)
+            contenders[i].times[round] = time_job(&contenders[i]);
+}
+
+/* ---- jobs ---- */
+
+typedef uint32_t (*judge)(const uint8_t *, size_t, const uint8_t *, size_t, uint8_t *, size_t);
+
+struct judging {
+    const struct workload *load;
+    judge judge;
+    uint8_t reply[FIDDLEQUILL_ANSWER_BYTES];
+    uint32_t number;
+};
+
+static void judge_job(void *context)
+{
+    struct judging *j = context;
+    j->number = j->judge(j->load->task, sizeof j->load->task, j->load->slots, j->load->slots_len, j->reply,
+                         sizeof j->reply);
+}
+
+static struct judging judged_by(judge judge, const struct workload *load)
+{
+    struct judging judging = {.load = load, .judge = judge};
+    judge_job(&judging);
+    return judging;
+}
+
+static bool same_answer(const struct judging *a, const struct judging *b)
+{
+    return a->number == b->number && memcmp(a->reply, b->reply, sizeof a->reply) == 0;
+}
+
+/* FP's zones, then some of its candidates; what the others would take is added by proportion. */
+struct sampling {
+    const struct workload *load;
+    struct fp fp;
+    uint64_t state;
+    uint32_t sample, highest;
+};
+
+static void zones_job(void *context)
+{
+    struct sampling *s = context;
+    fp_open(&s->fp, &s->load->fp.plan);
+}
+
+static void sample_job(void *context)
+{
+    struct sampling *s = context;
+    for (uint32_t i = 0; i < s->sample; i++) {
+        uint32_t zone = (uint32_t)(draw(&s->state) % s->fp.zones);
+        uint32_t n = (uint32_t)(draw(&s->state) % s->fp.plan.k);
+        uint32_t drops = fp_count(&s->fp, fp_candidate(&s->fp, zone, n));
+        s->highest = drops > s->highest ? drops : s->highest;
+    }
+}
+
+struct floor_run {
+    uint8_t *bytes;
+    size_t n;
+    volatile uint32_t sum;
+};
+
+static void floor_job(void *context)
+{
+    struct floor_run *f = context;
+    f->sum = floor_pass(f->bytes, f->n);
+}
+
+/* ---- the grid ---- */
+
+static double sampled_fp(const struct row *row, double zones_ns, double sample_ns, uint32_t sample)
+{
+    return zones_ns + sample_ns / sample * ((double)row->zones * row->cell.k + 1);
+}
+
+/* Where FP is too slow to run whole, its sampled candidates may not beat the answer, which it must recount. */
+static bool sample_agrees(const struct sampling *sampling, const struct judging *ours)
+{
+    uint32_t worst = get_number(ours->reply + 8, 4), offset = get_number(ours->reply + 12, 4);
+    return sampling->highest <= worst && fp_count(&sampling->fp, offset) == worst;
+}
+
+static enum fp_way way_for(double guess_ns)
+{
+    if (guess_ns <= fp_rounds_ns)
+        return FP_ROUNDS;
+    return guess_ns <= fp_once_ns ? FP_ONCE : FP_SAMPLE;
+}
+
+/* A first, rough look at how long FP would take. */
+static double guess_fp(const struct row *row, struct sampling *sampling)
+{
+    struct contender zones = {.run = zones_job, .context = sampling}, sample = {.run = sample_job, .context = sampling};
+    calibrate(&zones);
+    calibrate(&sample);
+    return sampled_fp(row, time_job(&zones), time_job(&sample), sampling->sample);
+}
+
+static double largest_spread(const struct contender *contenders, size_t n)
+{
+    double largest = 1;
+    for (size_t i = 0; i < n; i++)
+        largest = spread(contenders[i].times) > largest ? spread(contenders[i].times) : largest;
+    return largest;
+}
+
+static void fill_row(struct row *row, const struct workload *load)
+{
+    static struct sampling sampling;
+    static uint8_t bytes[FIDDLEQUILL_WHEEL_MAX];
+    static const size_t taking_turns[] = {[FP_ROUNDS] = 4, [FP_ONCE] = 3, [FP_SAMPLE] = 5};
+    struct judging fp = {.load = load, .judge = fp_judge};
+    struct judging doubling = judged_by(doubling_judge, load), ours = judged_by(fiddlequill_judge, load);
+    struct floor_run floor_run = {.bytes = bytes, .n = load->cell.w};
+    sampling = (struct sampling){.load = load, .fp = load->fp, .state = 1, .sample = 16};
+    row->cell = load->cell;
+    row->zones = load->fp.zones;
+    row->way = way_for(guess_fp(row, &sampling));
+    struct contender c[] = {{.run = judge_job, .context = &doubling}, {.run = judge_job, .context = &ours},
+                            {.run = floor_job, .context = &floor_run}, {.run = judge_job, .context = &fp},
+                            {.run = sample_job, .context = &sampling}};
+    if (row->way == FP_SAMPLE)
+        c[3] = (struct contender){.run = zones_job, .context = &sampling};
+    take_turns(c, taking_turns[row->way]);
+    row->doubling = median(c[0].times);
+    row->ours = median(c[1].times);
+    row->floor = median(c[2].times);
+    if (row->way == FP_ROUNDS) {
+        row->fp = median(c[3].times);
+    } else if (row->way == FP_ONCE) {
+        c[3].repeats = 1;
+        row->fp = time_job(&c[3]);
+    } else {
+        row->fp = median(c[3].times);
+        row->fp = sampled_fp(row, row->fp, median(c[4].times), sampling.sample);
+    }
+    row->spread = largest_spread(c, taking_turns[row->way]);
+    row->agree = same_answer(&doubling, &ours) &&
+                 (row->way == FP_SAMPLE ? sample_agrees(&sampling, &ours) : same_answer(&fp, &ours));
+}
+
+/* ---- growth: one judging against another ---- */
+
+static void fill_growth(struct growth *growth)
+{
+    static struct workload small, large;
+    make_workload(&small, growth->small);
+    make_workload(&large, growth->large);
+    struct judging a = judged_by(fiddlequill_judge, &small), b = judged_by(fiddlequill_judge, &large);
+    struct contender c[] = {{.run = judge_job, .context = &a}, {.run = judge_job, .context = &b}};
+    take_turns(c, LENGTH(c));
+    growth->ratio = median(c[1].times) / median(c[0].times);
+}
+
+/* ---- grants ---- */
+
+struct granting {
+    uint64_t v, e, h, k;
+    uint64_t result;
+};
+
+static void grant_job(void *context)
+{
+    struct granting *g = context;
+    uint8_t marks[GRANT_SLOTS];
+    memset(marks, 1, sizeof marks);
+    g->result = fiddlequill_grant(marks, sizeof marks, g->v, g->e, g->h, g->h, g->k, g->k);
+}
+
+/* A judging of the grant's wheel with the first j slots; m is k, so firm means that nothing drops. */
+static void wheel_of_grant(struct workload *load, const struct granting *g, uint32_t j)
+{
+    load->cell = (struct cell){(uint32_t)(GRANT_SLOTS * g->v), j, (uint32_t)g->k};
+    load->slots_len = 0;
+    for (uint32_t i = 0; i < j; i++)
+        put_slot(load, (uint32_t)(i * g->v), (uint32_t)((i + 1) * g->v));
+    put_task(load, (uint32_t)g->e, (uint32_t)g->h, (uint32_t)g->k);
+}
+
+static bool firm_with(const struct granting *g, uint32_t j)
+{
+    static struct workload load;
+    wheel_of_grant(&load, g, j);
+    struct judging judging = judged_by(doubling_judge, &load);
+    return get_number(judging.reply + 6, 2) == 1;
+}
+
+/* Plain doubling must find the same number of slots firm, and one less not. */
+static bool grant_agrees(const struct granting *g, uint32_t number, uint32_t granted)
+{
+    if (number != FIDDLEQUILL_OK)
+        return number == FIDDLEQUILL_NEVER_FIRM && !firm_with(g, GRANT_SLOTS);
+    return firm_with(g, granted) && (granted == 0 || !firm_with(g, granted - 1));
+}
+
+/* The need as sixty-fourths of the window: more than a part of the wheel's slots, all of them, or too many. */
+static void fill_grant(struct grant_row *row, uint32_t sixtyfourths)
+{
+    static struct workload load;
+    uint32_t h = period_for(GRANT_SLOTS * row->v, GRANT_SLOTS);
+    struct granting g = {.v = row->v, .e = (uint64_t)h * sixtyfourths / GRANT_SLOTS, .h = h, .k = row->k};
+    grant_job(&g);
+    row->number = fiddlequill_number(g.result);
+    row->granted = fiddlequill_value(g.result);
+    row->agree = grant_agrees(&g, row->number, row->granted);
+    wheel_of_grant(&load, &g, row->number == FIDDLEQUILL_OK ? row->granted : GRANT_SLOTS);
+    struct judging judging = judged_by(fiddlequill_judge, &load);
+    struct contender c[] = {{.run = grant_job, .context = &g}, {.run = judge_job, .context = &judging}};
+    take_turns(c, LENGTH(c));
+    row->grant = median(c[0].times);
+    row->judging = median(c[1].times);
+    row->judgements = row->grant / row->judging;
+}
+
+/* ---- a whole run ---- */
+
+static const uint32_t wheels[] = {55, 700, 1300, 4096, 16384};
+static const uint32_t slot_counts[] = {1, 4, 16, 64};
+static const uint32_t strip_counts[] = {10, 125, 1024};
+static const uint32_t grant_lengths[] = {1, 20, 64, 256};
+
+static const struct {
+    const char *kind;
+    uint32_t sixtyfourths;
+} grant_kinds[] = {{"part of the slots", 20}, {"all slots", GRANT_SLOTS}, {"refusal 13", GRANT_SLOTS + 1}};
+
+/* results.h has room for these. */
+_Static_assert(LENGTH(wheels) * LENGTH(slot_counts) * LENGTH(strip_counts) <= ROWS_MAX, "rows");
+_Static_assert(LENGTH(slot_counts) * (1 + LENGTH(strip_counts)) + 2 * LENGTH(strip_counts) <= GROWTHS_MAX, "growths");
+_Static_assert(LENGTH(grant_lengths) * LENGTH(strip_counts) * LENGTH(grant_kinds) <= GRANTS_MAX, "grants");
+
+static void run_grid(struct results *results)
+{
+    static struct workload load;
+    const size_t cells = LENGTH(wheels) * LENGTH(slot_counts) * LENGTH(strip_counts);
+    for (size_t i = 0; i < cells; i++) {
+        struct cell cell = {wheels[i / (LENGTH(strip_counts) * LENGTH(slot_counts))],
+                            slot_counts[i / LENGTH(strip_counts) % LENGTH(slot_counts)],
+                            strip_counts[i % LENGTH(strip_counts)]};
+        if (cell.slots > cell.w / 2)
+            continue;
+        make_workload(&load, cell);
+        fill_row(&results->row[results->rows++], &load);
+    }
+}
+
+static void add_growth(struct results *results, enum growth_in in, struct cell small, struct cell large)
+{
+    struct growth *growth = &results->growth[results->growths++];
+    *growth = (struct growth){in, small, large, 0};
+    fill_growth(growth);
+}
+
+static void run_growth(struct results *results)
+{
+    for (size_t s = 0; s < LENGTH(slot_counts); s++) {
+        uint32_t slots = slot_counts[s];
+        add_growth(results, IN_STRIPS, (struct cell){16384, slots, 10}, (struct cell){16384, slots, 1024});
+        for (size_t i = 0; i < LENGTH(strip_counts); i++)
+            add_growth(results, IN_WHEEL, (struct cell){4096, slots, strip_counts[i]},
+                       (struct cell){16384, slots, strip_counts[i]});
+    }
+    for (size_t i = 0; i < LENGTH(strip_counts); i++)
+        for (uint32_t w = 4096; w <= 16384; w *= 4)
+            add_growth(results, IN_SLOTS, (struct cell){w, 1, strip_counts[i]},
+                       (struct cell){w, 64, strip_counts[i]});
+}
+
+static void run_grants(struct results *results)
+{
+    results->grants = LENGTH(grant_lengths) * LENGTH(strip_counts) * LENGTH(grant_kinds);
+    for (size_t i = 0; i < results->grants; i++) {
+        size_t kind = i % LENGTH(grant_kinds), rest = i / LENGTH(grant_kinds);
+        struct grant_row *row = &results->grant[i];
+        row->kind = grant_kinds[kind].kind;
+        row->v = grant_lengths[rest / LENGTH(strip_counts)];
+        row->k = strip_counts[rest % LENGTH(strip_counts)];
+        fill_grant(row, grant_kinds[kind].sixtyfourths);
+    }
+}
+
+static int write_results(const char *folder, const char *name, void (*print)(FILE *, const struct results *),
+                         const struct results *results)
+{
+    char path[PATH_ROOM];
+    if (join_path(path, folder, name) != 0)
+        return -1;
+    FILE *out = fopen(path, "w");
+    if (out == NULL) {
+        perror(path);
+        return -1;
+    }
+    print(out, results);
+    return fclose(out);
+}
+
+static int run(const char *folder)
+{
+    static struct results results;
+    run_grid(&results);
+    run_growth(&results);
+    run_grants(&results);
+    print_report(stdout, &results);
+    if (write_results(folder, "RESULTS.md", print_report, &results) != 0 ||
+        write_results(folder, "results.csv", print_csv, &results) != 0)
+        return 2;
+    return differences(&results) == 0 ? 0 : 1;
+}
+
+/* ---- once ---- */
+
+static int once(struct cell cell)
+{
+    static struct workload load;
+    if (cell.w == 0 || cell.slots == 0 || cell.slots > FIDDLEQUILL_SLOTS_MAX || cell.slots > cell.w / 2) {
+        fprintf(stderr, "bench: slots go from 1 to 64 and to half of w\n");
+        return 2;
+    }
+    make_workload(&load, cell);
+    struct judging doubling = judged_by(doubling_judge, &load), ours = judged_by(fiddlequill_judge, &load);
+    uint64_t count = fiddlequill_count(load.task, sizeof load.task, load.slots, load.slots_len,
+                                       get_number(ours.reply + 12, 4));
+    uint32_t v = cell.w < GRANT_SLOTS ? 1 : cell.w / GRANT_SLOTS, h = period_for(GRANT_SLOTS * v, GRANT_SLOTS);
+    struct granting grant = {.v = v, .e = h / 3, .h = h, .k = cell.k};
+    grant_job(&grant);
+    printf("judged: worst %" PRIu32 "; counted there: %" PRIu32 "; granted: %" PRIu32 "\n",
+           get_number(ours.reply + 8, 4), fiddlequill_value(count), fiddlequill_value(grant.result));
+    return same_answer(&doubling, &ours) ? 0 : 1;
+}
+
+int main(int argc, char **argv)
+{
+    if (argc == 2 && argv[1][0] != '-')
+        return run(argv[1]);
+    if (argc == 5 && strcmp(argv[1], "--once") == 0)
+        return once((struct cell){(uint32_t)strtoul(argv[2], NULL, 10), (uint32_t)strtoul(argv[3], NULL, 10),
+                                  (uint32_t)strtoul(argv[4], NULL, 10)});
+    fprintf(stderr, "usage: bench FOLDER\n       bench --once W SLOTS K\n");
+    return 2;
+}

@@ -1,0 +1,73 @@
+/* Reading and answering, the same for both baselines; and the floor. */
+#include "baselines.h"
+#include "bytes.h"
+
+#include <string.h>
+
+static uint32_t read_slots(struct plan *plan, const uint8_t *slots, uint32_t first)
+{
+    uint32_t previous_end = 0;
+    for (uint32_t i = 0; i < plan->slots; i++) {
+        const uint8_t *slot = slots + (size_t)(first + i) * FIDDLEQUILL_SLOT_BYTES;
+        uint32_t start = get_number(slot, 4), end = get_number(slot + 4, 4);
+        if (start >= end || end > plan->w || start < previous_end)
+            return FIDDLEQUILL_BAD_SLOTS;
+        plan->start[i] = start;
+        plan->end[i] = previous_end = end;
+    }
+    return FIDDLEQUILL_OK;
+}
+
+static uint32_t check_limits(const struct plan *plan)
+{
+    if (plan->e == 0 || plan->e > FIDDLEQUILL_NEED_MAX)
+        return FIDDLEQUILL_BAD_NEED;
+    if (plan->h == 0 || plan->h > FIDDLEQUILL_PERIOD_MAX)
+        return FIDDLEQUILL_BAD_PERIOD;
+    if (plan->D == 0 || plan->D > plan->h)
+        return FIDDLEQUILL_BAD_DEADLINE;
+    if (plan->k == 0 || plan->k > FIDDLEQUILL_STRIPS_MAX)
+        return FIDDLEQUILL_BAD_STRIPS;
+    return plan->m > plan->k ? FIDDLEQUILL_BAD_PAINTED : FIDDLEQUILL_OK;
+}
+
+uint32_t plan_read(struct plan *plan, const uint8_t *task, size_t task_len, const uint8_t *slots, size_t slots_len)
+{
+    if (task_len != FIDDLEQUILL_TASK_BYTES || slots_len % FIDDLEQUILL_SLOT_BYTES != 0)
+        return FIDDLEQUILL_BAD_LENGTH;
+    uint32_t first = get_number(task + 28, 2);
+    plan->id = get_number(task, 4);
+    plan->w = get_number(task + 4, 4);
+    plan->e = get_number(task + 8, 4);
+    plan->D = get_number(task + 12, 4);
+    plan->h = get_number(task + 16, 4);
+    plan->m = get_number(task + 20, 4);
+    plan->k = get_number(task + 24, 4);
+    plan->slots = get_number(task + 30, 2);
+    if (first + plan->slots > slots_len / FIDDLEQUILL_SLOT_BYTES)
+        return FIDDLEQUILL_BEYOND_SLOTS;
+    if (plan->w == 0 || plan->w > FIDDLEQUILL_WHEEL_MAX)
+        return FIDDLEQUILL_BAD_WHEEL;
+    if (plan->slots > FIDDLEQUILL_SLOTS_MAX)
+        return FIDDLEQUILL_BAD_SLOTS;
+    uint32_t number = read_slots(plan, slots, first);
+    return number != FIDDLEQUILL_OK ? number : check_limits(plan);
+}
+
+void plan_answer(const struct plan *plan, uint32_t number, uint32_t worst, uint32_t offset, uint8_t *reply)
+{
+    put_number(reply, plan->id, 4);
+    put_number(reply + 4, number, 2);
+    put_number(reply + 6, number == FIDDLEQUILL_OK && worst <= plan->k - plan->m, 2);
+    put_number(reply + 8, worst, 4);
+    put_number(reply + 12, offset, 4);
+}
+
+uint32_t floor_pass(uint8_t *bytes, size_t n)
+{
+    uint32_t sum = 0;
+    memset(bytes, 0, n);
+    for (size_t i = 0; i < n; i++)
+        sum += bytes[i];
+    return sum;
+}

@@ -1,0 +1,236 @@
+#include "results.h"
+
+#include <inttypes.h>
+#include <stdlib.h>
+
+#ifndef BENCH_FLAGS
+#define BENCH_FLAGS "unknown"
+#endif
+
+size_t differences(const struct results *results)
+{
+    size_t found = 0;
+    for (size_t i = 0; i < results->rows; i++)
+        found += !results->row[i].agree;
+    for (size_t i = 0; i < results->grants; i++)
+        found += !results->grant[i].agree;
+    return found;
+}
+
+/* ---- goals ---- */
+
+static double worst_growth(const struct results *results, enum growth_in in)
+{
+    double worst = 0;
+    for (size_t i = 0; i < results->growths; i++)
+        if (results->growth[i].in == in && results->growth[i].ratio > worst)
+            worst = results->growth[i].ratio;
+    return worst;
+}
+
+static const struct row *row_of(const struct results *results, uint32_t w, uint32_t slots, uint32_t k)
+{
+    for (size_t i = 0; i < results->rows; i++) {
+        const struct cell *cell = &results->row[i].cell;
+        if (cell->w == w && cell->slots == slots && cell->k == k)
+            return &results->row[i];
+    }
+    fprintf(stderr, "bench: no such cell\n");
+    exit(2);
+}
+
+static double fp_ratio(const struct row *row)
+{
+    return row->fp / row->ours;
+}
+
+static double doubling_ratio(const struct row *row)
+{
+    return row->ours / row->doubling;
+}
+
+static double least_fp_ratio(const struct results *results)
+{
+    double least = fp_ratio(&results->row[0]);
+    for (size_t i = 1; i < results->rows; i++)
+        least = fp_ratio(&results->row[i]) < least ? fp_ratio(&results->row[i]) : least;
+    return least;
+}
+
+/* The largest over wheels from `from` to `to`. */
+static double most_doubling_ratio(const struct results *results, uint32_t from, uint32_t to)
+{
+    double most = 0;
+    for (size_t i = 0; i < results->rows; i++) {
+        const struct row *row = &results->row[i];
+        if (row->cell.w >= from && row->cell.w <= to && doubling_ratio(row) > most)
+            most = doubling_ratio(row);
+    }
+    return most;
+}
+
+static double most_judgements(const struct results *results)
+{
+    double most = 0;
+    for (size_t i = 0; i < results->grants; i++)
+        most = results->grant[i].judgements > most ? results->grant[i].judgements : most;
+    return most;
+}
+
+static void print_goal(FILE *out, const char *what, bool at_least, double goal, double measured)
+{
+    bool reached = at_least ? measured >= goal : measured <= goal;
+    fprintf(out, "| %s | %s %g | %.2f | %s |\n", what, at_least ? "at least" : "at most", goal, measured,
+            reached ? "reached" : "missed");
+}
+
+static void print_fp_goal(FILE *out, const struct results *results, struct cell cell, double goal)
+{
+    char what[80];
+    const struct row *row = row_of(results, cell.w, cell.slots, cell.k);
+    snprintf(what, sizeof what, "FP ÷ ours, %" PRIu32 " / %" PRIu32 " / %" PRIu32 "%s", cell.w, cell.slots, cell.k,
+             row->way == FP_SAMPLE ? " (~)" : "");
+    print_goal(out, what, true, goal, fp_ratio(row));
+}
+
+static void print_goals(FILE *out, const struct results *r)
+{
+    fprintf(out, "| goal (a cell is w / slots / k) | wanted | measured | |\n|---|---|---:|---|\n");
+    print_fp_goal(out, r, (struct cell){55, 4, 10}, 12);
+    print_fp_goal(out, r, (struct cell){1300, 4, 125}, 200);
+    print_fp_goal(out, r, (struct cell){1300, 4, 1024}, 6000);
+    print_fp_goal(out, r, (struct cell){4096, 64, 1024}, 80000);
+    print_goal(out, "FP ÷ ours, the least of all cells", true, 7, least_fp_ratio(r));
+    print_goal(out, "ours ÷ doubling, the most for w from 700", false, 0.6, most_doubling_ratio(r, 700, UINT32_MAX));
+    print_goal(out, "ours ÷ doubling, the most for w below 700", false, 1.0, most_doubling_ratio(r, 0, 699));
+    print_goal(out, "64 slots against 1, the most for w from 4096", false, 1.2, worst_growth(r, IN_SLOTS));
+    print_goal(out, "k 1024 against 10, the most for w 16384", false, 2.5, worst_growth(r, IN_STRIPS));
+    print_goal(out, "w 16384 against 4096, the most", false, 6, worst_growth(r, IN_WHEEL));
+    print_goal(out, "a grant of up to 64 slots, in judgements, the most", false, 7, most_judgements(r));
+    print_goal(out, "stretch: ours ÷ doubling, 16384 / 4 / 10", false, 0.5, doubling_ratio(row_of(r, 16384, 4, 10)));
+}
+
+/* ---- the report ---- */
+
+/* __clang_version__ may name where the compiler was fetched from. */
+static void print_compiler(FILE *out)
+{
+#ifdef __clang__
+    fprintf(out, "- compiler of bench and baselines: clang %d.%d.%d\n", __clang_major__, __clang_minor__,
+            __clang_patchlevel__);
+#else
+    fprintf(out, "- compiler of bench and baselines: %s\n", __VERSION__);
+#endif
+}
+
+static const char *answers_of(const struct row *row)
+{
+    if (!row->agree)
+        return "DIFFERENT";
+    return row->way == FP_SAMPLE ? "equal, FP's sample fits" : "all equal";
+}
+
+static const char *const way_names[] = {[FP_ROUNDS] = "rounds", [FP_ONCE] = "once", [FP_SAMPLE] = "sample"};
+
+static void print_grid(FILE *out, const struct results *results)
+{
+    fprintf(out, "| w | slots | k | zone starts | FP ÷ ours | ours ÷ doubling "
+                 "| FP (µs) | doubling (µs) | ours (µs) | floor (µs) | FP timed | spread | answers |\n"
+                 "|---:|---:|---:|---:|---:|---:|---:|---:|---:|---:|---|---:|---|\n");
+    for (size_t i = 0; i < results->rows; i++) {
+        const struct row *row = &results->row[i];
+        const char *about = row->way == FP_SAMPLE ? "~" : "";
+        fprintf(out, "| %" PRIu32 " | %" PRIu32 " | %" PRIu32 " | %" PRIu32 " | %s%.1f | %.2f ", row->cell.w,
+                row->cell.slots, row->cell.k, row->zones, about, fp_ratio(row), doubling_ratio(row));
+        fprintf(out, "| %s%.1f | %.2f | %.2f | %.2f ", about, row->fp / 1e3, row->doubling / 1e3, row->ours / 1e3,
+                row->floor / 1e3);
+        fprintf(out, "| %s | %.2f | %s |\n", way_names[row->way], row->spread, answers_of(row));
+    }
+}
+
+static const char *const growth_names[] = {[IN_SLOTS] = "slots", [IN_STRIPS] = "k", [IN_WHEEL] = "w"};
+
+static void print_cell(FILE *out, const struct cell *cell)
+{
+    fprintf(out, "| %" PRIu32 " / %" PRIu32 " / %" PRIu32 " ", cell->w, cell->slots, cell->k);
+}
+
+static void print_growth(FILE *out, const struct results *results)
+{
+    fprintf(out, "| growth in | w / slots / k | against | time ratio |\n|---|---|---|---:|\n");
+    for (size_t i = 0; i < results->growths; i++) {
+        const struct growth *g = &results->growth[i];
+        fprintf(out, "| %s ", growth_names[g->in]);
+        print_cell(out, &g->large);
+        print_cell(out, &g->small);
+        fprintf(out, "| %.2f |\n", g->ratio);
+    }
+}
+
+static void print_grants(FILE *out, const struct results *results)
+{
+    fprintf(out, "| N | v | k | grant | slots granted | in judgements | grant (µs) | judgement (µs) | answers |\n"
+                 "|---:|---:|---:|---|---:|---:|---:|---:|---|\n");
+    for (size_t i = 0; i < results->grants; i++) {
+        const struct grant_row *row = &results->grant[i];
+        fprintf(out, "| %d | %" PRIu32 " | %" PRIu32 " | %s | %" PRIu32 " | %.2f | %.2f | %.2f | %s |\n", GRANT_SLOTS,
+                row->v, row->k, row->kind, row->granted, row->judgements, row->grant / 1e3, row->judging / 1e3,
+                row->agree ? "equal" : "DIFFERENT");
+    }
+}
+
+/* Ratios stand before times in every table: they are what carries over to another machine. */
+void print_report(FILE *out, const struct results *results)
+{
+    const char *machine = getenv("BENCH_MACHINE");
+    fprintf(out, "# Bench\n\nFP is the published Finite-Point method in the obvious C, doubling the plain form of "
+                 "doubling in C,\nours the archive, floor clearing and reading w bytes.\n\n");
+    fprintf(out, "## Goals\n\n");
+    print_goals(out, results);
+    fprintf(out, "\n## Judging\n\nThe slots lie at an even pitch, each half of it long and moved a little; D = h is a "
+                 "turn, a third and half a\npitch, coprime to w; e lies midway between the least and the largest "
+                 "supply.\n");
+    fprintf(out, "FP takes its turn in every round, or is timed whole but once where it needs more than %.0f ms. ~ is "
+                 "FP over a\nrandom sample of its candidates, scaled up to all, where it needs more than %.0f s; "
+                 "that can be well off.\n", fp_rounds_ns / 1e6, fp_once_ns / 1e9);
+    fprintf(out, "All answers are compared; beside ~ only the sample's counts and FP's count at the answer's offset.\n"
+                 "Spread is the upper over the lower quartile of the rounds, the largest of a row: far above 1 the "
+                 "row was\ndisturbed.\n\n");
+    print_grid(out, results);
+    fprintf(out, "\n## Growth of ours\n\n");
+    print_growth(out, results);
+    fprintf(out, "\n## Grants\n\nAll slots are free, m = k. A judgement is of the same wheel with the granted slots "
+                 "(all, where refused).\n\n");
+    print_grants(out, results);
+    fprintf(out, "\n## Conditions\n\n- machine: %s\n", machine != NULL ? machine : "not told");
+    print_compiler(out);
+    fprintf(out, "- flags: %s\n- archive: as it was built\n", BENCH_FLAGS);
+    fprintf(out, "- runs: medians of %d rounds of at least %.0f µs of processor time each, taking turns\n", ROUNDS,
+            batch_ns / 1e3);
+    fprintf(out, "\nbench: %zu cases, %zu differences\n", results->rows + results->grants, differences(results));
+}
+
+void print_csv(FILE *out, const struct results *results)
+{
+    fprintf(out, "case,w,slots,k,zone_starts,fp_timed,fp_ns,doubling_ns,ours_ns,floor_ns,fp_over_ours,"
+                 "ours_over_doubling,spread,against_w,against_slots,against_k,growth,judgements\n");
+    for (size_t i = 0; i < results->rows; i++) {
+        const struct row *r = &results->row[i];
+        fprintf(out, "judge,%" PRIu32 ",%" PRIu32 ",%" PRIu32 ",%" PRIu32 ",%s,", r->cell.w, r->cell.slots, r->cell.k,
+                r->zones, way_names[r->way]);
+        fprintf(out, "%.1f,%.1f,%.1f,%.1f,%.3f,%.4f,%.3f,,,,,\n", r->fp, r->doubling, r->ours, r->floor, fp_ratio(r),
+                doubling_ratio(r), r->spread);
+    }
+    for (size_t i = 0; i < results->growths; i++) {
+        const struct growth *g = &results->growth[i];
+        fprintf(out, "growth in %s,", growth_names[g->in]);
+        fprintf(out, "%" PRIu32 ",%" PRIu32 ",%" PRIu32, g->large.w, g->large.slots, g->large.k);
+        fprintf(out, ",,,,,,,,,,%" PRIu32 ",%" PRIu32 ",%" PRIu32 ",%.4f,\n", g->small.w, g->small.slots, g->small.k,
+                g->ratio);
+    }
+    for (size_t i = 0; i < results->grants; i++) {
+        const struct grant_row *g = &results->grant[i];
+        fprintf(out, "grant of %s,%" PRIu32 ",%d,%" PRIu32 ",,,,,%.1f,,,,,,,,,%.4f\n", g->kind, GRANT_SLOTS * g->v,
+                GRANT_SLOTS, g->k, g->grant, g->judgements);
+    }
+}

@@ -1,0 +1,61 @@
+/* What a run of the bench has measured, and how it is told. */
+#ifndef RESULTS_H
+#define RESULTS_H
+
+#include "workload.h"
+
+#include <stdbool.h>
+#include <stdio.h>
+
+enum { ROUNDS = 15, GRANT_SLOTS = 64, ROWS_MAX = 60, GROWTHS_MAX = 32, GRANTS_MAX = 36 };
+
+static const double batch_ns = 200e3;     /* one timing lasts at least this long */
+static const double fp_rounds_ns = 100e6; /* FP up to here takes its turn in every round */
+static const double fp_once_ns = 10e9;    /* and up to here it is timed whole, but once */
+
+/* How FP was timed. A sample of its candidates, scaled up to all, is the last resort: it can be well off. */
+enum fp_way { FP_ROUNDS, FP_ONCE, FP_SAMPLE };
+
+/* A judging by all contenders. */
+struct row {
+    struct cell cell;
+    uint32_t zones;
+    double fp, doubling, ours, floor; /* ns */
+    double spread;                    /* the largest of its contenders' quartile ratios */
+    enum fp_way way;
+    bool agree;
+};
+
+enum growth_in { IN_SLOTS, IN_STRIPS, IN_WHEEL };
+
+/* Ours on one task against ours on a larger one. */
+struct growth {
+    enum growth_in in;
+    struct cell small, large;
+    double ratio;
+};
+
+/* A grant against one judging of its wheel. */
+struct grant_row {
+    const char *kind;
+    uint32_t v, k;
+    uint32_t number, granted;
+    double judgements, grant, judging; /* a ratio, then ns */
+    bool agree;
+};
+
+struct results {
+    size_t rows, growths, grants;
+    struct row row[ROWS_MAX];
+    struct growth growth[GROWTHS_MAX];
+    struct grant_row grant[GRANTS_MAX];
+};
+
+/* Cases whose answers differ. */
+size_t differences(const struct results *results);
+/* The tables for people: ratios first, then times and conditions. */
+void print_report(FILE *out, const struct results *results);
+/* The same numbers for programs. */
+void print_csv(FILE *out, const struct results *results);
+
+#endif

@@ -1,0 +1,32 @@
+/* The tasks that are timed: always the same ones. */
+#ifndef WORKLOAD_H
+#define WORKLOAD_H
+
+#include "baselines.h"
+
+struct cell {
+    uint32_t w, slots, k;
+};
+
+struct workload {
+    struct cell cell;
+    uint8_t task[FIDDLEQUILL_TASK_BYTES];
+    uint8_t slots[FIDDLEQUILL_SLOTS_MAX * FIDDLEQUILL_SLOT_BYTES];
+    size_t slots_len;
+    struct fp fp;
+};
+
+/* The next number of a fixed row of random ones. */
+uint64_t draw(uint64_t *state);
+
+/* A period without early returns to a place on the wheel. */
+uint32_t period_for(uint32_t w, uint32_t slots);
+
+/* Appends a slot; then writes a task over all slots so far, with D = h and the cell's w and k. */
+void put_slot(struct workload *load, uint32_t start, uint32_t end);
+void put_task(struct workload *load, uint32_t e, uint32_t h, uint32_t m);
+
+/* The task of a cell; exits when the baselines' reader refuses it. */
+void make_workload(struct workload *load, struct cell cell);
+
+#endif

@@ -1,0 +1,39 @@
+// What the desk's C program calls. Every call takes any bytes and any 64-bit numbers; a number that doesn't fit is refused by its bound.
+ghost use mathlib.Core.Path.{_≡_};
+ghost use Rattle.records.specs.Refusals.{pointRefusal};
+ghost use Rattle.judge.specs.Judge.{Judged};
+ghost use Rattle.judge.specs.Points.{countedAt};
+ghost use Rattle.fiddlequill.specs.Packed.{packed, PackedGrant};
+
+// The refusal number times 2^32 plus the other number.
+fn pack(number: u32, value: u32) -> u64
+    ensures { λ r. ⌜ r ≡ packed number value ⌝ }
+{
+    (number as u64) * 4294967296 + (value as u64)
+}
+
+// Judges a task record on a slot buffer; the result is the refusal number, and the reply gets the answer record.
+#[no_mangle]
+pub extern "C" fn fiddlequill_judge(task: &[u8], slots: &[u8], reply: &mut [u8]) -> u32
+    ensures { λ r. ⌜ Judged (now (task .entry)) (now (slots .entry)) (now (reply .entry)) r (now (reply .exit)) ⌝ }
+{
+    judge::judge(task, slots, reply)
+}
+
+// Counts the drops from a half tick; the refusal number and the count, packed.
+#[no_mangle]
+pub extern "C" fn fiddlequill_count(task: &[u8], slots: &[u8], offset: u64) -> u64
+    ensures { λ r. ⌜ r ≡ packed (pointRefusal (now (task .entry)) (now (slots .entry)) offset) (countedAt (now (task .entry)) (now (slots .entry)) offset) ⌝ }
+{
+    let counted = judge::count(task, slots, offset);
+    pack(counted.number, counted.count)
+}
+
+// Grants the first free slots; the refusal number and how many were granted, packed. A grant turns their marks into 2.
+#[no_mangle]
+pub extern "C" fn fiddlequill_grant(marks: &mut [u8], v: u64, e: u64, d: u64, h: u64, m: u64, k: u64) -> u64
+    ensures { λ r. ⌜ PackedGrant (now (marks .entry)) v e d h m k r (now (marks .exit)) ⌝ }
+{
+    let granted = grants::grant(marks, v, e, d, h, m, k);
+    pack(granted.number, granted.slots)
+}

@@ -1,0 +1,149 @@
+/*
+ * A small configuration desk: judges every task of a site, in words.
+ *
+ *   desk FOLDER
+ *
+ * FOLDER holds tasks.bin and slots.bin (`records make FOLDER` makes them). For
+ * a task that isn't firm it asks whether free, equal slots would do.
+ * The exit status is 0 when every task got an answer, refused ones included.
+ */
+#include "bytes.h"
+#include "files.h"
+#include "fiddlequill.h"
+
+#include <inttypes.h>
+#include <stdbool.h>
+#include <stdio.h>
+#include <stdlib.h>
+#include <string.h>
+
+struct site {
+    struct file tasks, slots;
+};
+
+/* The fields of a task record that the desk speaks of. */
+struct task {
+    uint32_t id, w, e, D, h, m, k;
+};
+
+struct answer {
+    uint32_t firm, worst, offset;
+};
+
+static struct task task_of(const uint8_t *bytes)
+{
+    return (struct task){
+        .id = get_number(bytes, 4),
+        .w = get_number(bytes + 4, 4),
+        .e = get_number(bytes + 8, 4),
+        .D = get_number(bytes + 12, 4),
+        .h = get_number(bytes + 16, 4),
+        .m = get_number(bytes + 20, 4),
+        .k = get_number(bytes + 24, 4),
+    };
+}
+
+static struct answer answer_of(const uint8_t *bytes)
+{
+    return (struct answer){get_number(bytes + 6, 2), get_number(bytes + 8, 4), get_number(bytes + 12, 4)};
+}
+
+static void print_verdict(const struct task *task, const struct answer *answer)
+{
+    printf("task %" PRIu32 ": %s, ", task->id, answer->firm ? "firm" : "not firm");
+    printf("at worst %" PRIu32 " of %" PRIu32 " strips drop and %" PRIu32 " may, ", answer->worst, task->k,
+           task->k - task->m);
+    printf("first from tick %" PRIu32 "%s\n", answer->offset / 2, answer->offset % 2 == 1 ? ".5" : "");
+}
+
+/* Counting again from the worst offset must give the worst count. */
+static int recount(const struct site *site, const uint8_t *record, const struct answer *answer)
+{
+    uint64_t packed = fiddlequill_count(record, FIDDLEQUILL_TASK_BYTES, site->slots.bytes, site->slots.len,
+                                        answer->offset);
+    if (fiddlequill_number(packed) == FIDDLEQUILL_OK && fiddlequill_value(packed) == answer->worst) {
+        printf("  counted again from there: %" PRIu32 "\n", fiddlequill_value(packed));
+        return 0;
+    }
+    fprintf(stderr, "%s: task %" PRIu32 ": counting from the worst offset gives refusal %" PRIu32, site->tasks.path,
+            get_number(record, 4), fiddlequill_number(packed));
+    fprintf(stderr, ", count %" PRIu32 "\n", fiddlequill_value(packed));
+    return -1;
+}
+
+/* The largest number of equal slots that w ticks can be cut into. */
+static uint32_t equal_slots(uint32_t w)
+{
+    uint32_t n = FIDDLEQUILL_GRANT_SLOTS_MAX;
+    while (w % n != 0)
+        n--;
+    return n;
+}
+
+/* Were the task's wheel cut into equal slots, all free: how many would it take? */
+static void offer_grant(const struct task *task)
+{
+    uint8_t marks[FIDDLEQUILL_GRANT_SLOTS_MAX];
+    uint32_t n = equal_slots(task->w), v = task->w / n;
+    memset(marks, 1, sizeof marks);
+    uint64_t packed = fiddlequill_grant(marks, n, v, task->e, task->D, task->h, task->m, task->k);
+    printf("  with %" PRIu32 " free slots of %" PRIu32 " ticks: ", n, v);
+    if (fiddlequill_number(packed) == FIDDLEQUILL_OK)
+        printf("the first %" PRIu32 " would make it firm\n", fiddlequill_value(packed));
+    else
+        printf("%s\n", fiddlequill_meaning(fiddlequill_number(packed)));
+}
+
+static int judge_one(const struct site *site, const uint8_t *record)
+{
+    uint8_t reply[FIDDLEQUILL_ANSWER_BYTES];
+    struct task task = task_of(record);
+    uint32_t number = fiddlequill_judge(record, FIDDLEQUILL_TASK_BYTES, site->slots.bytes, site->slots.len, reply,
+                                        sizeof reply);
+    if (number != FIDDLEQUILL_OK) {
+        printf("task %" PRIu32 ": refused with %" PRIu32 ", %s\n", task.id, number, fiddlequill_meaning(number));
+        return 0;
+    }
+    struct answer answer = answer_of(reply);
+    print_verdict(&task, &answer);
+    if (recount(site, record, &answer) != 0)
+        return -1;
+    if (!answer.firm)
+        offer_grant(&task);
+    return 0;
+}
+
+static int whole_records(const struct file *file, size_t bytes)
+{
+    if (file->len % bytes == 0)
+        return 0;
+    fprintf(stderr, "%s: %zu bytes aren't whole records of %zu\n", file->path, file->len, bytes);
+    return -1;
+}
+
+static int judge_site(const struct site *site)
+{
+    if (whole_records(&site->tasks, FIDDLEQUILL_TASK_BYTES) != 0 ||
+        whole_records(&site->slots, FIDDLEQUILL_SLOT_BYTES) != 0)
+        return -1;
+    int status = 0;
+    for (size_t at = 0; at < site->tasks.len; at += FIDDLEQUILL_TASK_BYTES)
+        if (judge_one(site, site->tasks.bytes + at) != 0)
+            status = -1;
+    return status;
+}
+
+int main(int argc, char **argv)
+{
+    struct site site = {.tasks.bytes = NULL, .slots.bytes = NULL};
+    if (argc != 2) {
+        fprintf(stderr, "usage: desk FOLDER\n");
+        return 2;
+    }
+    int status = -1;
+    if (read_file(&site.tasks, argv[1], "tasks.bin") == 0 && read_file(&site.slots, argv[1], "slots.bin") == 0)
+        status = judge_site(&site);
+    free(site.tasks.bytes);
+    free(site.slots.bytes);
+    return status == 0 ? 0 : 1;
+}

@@ -1,0 +1,299 @@
+/* Document 01 by definition; see definition.h. */
+#include "definition.h"
+
+#include <string.h>
+
+struct task task_of_bytes(const uint8_t *bytes)
+{
+    return (struct task){
+        .id = get_number(bytes, 4),
+        .w = get_number(bytes + 4, 4),
+        .e = get_number(bytes + 8, 4),
+        .D = get_number(bytes + 12, 4),
+        .h = get_number(bytes + 16, 4),
+        .m = get_number(bytes + 20, 4),
+        .k = get_number(bytes + 24, 4),
+        .first = get_number(bytes + 28, 2),
+        .count = get_number(bytes + 30, 2),
+    };
+}
+
+void task_to_bytes(const struct task *task, uint8_t *bytes)
+{
+    put_number(bytes, task->id, 4);
+    put_number(bytes + 4, task->w, 4);
+    put_number(bytes + 8, task->e, 4);
+    put_number(bytes + 12, task->D, 4);
+    put_number(bytes + 16, task->h, 4);
+    put_number(bytes + 20, task->m, 4);
+    put_number(bytes + 24, task->k, 4);
+    put_number(bytes + 28, task->first, 2);
+    put_number(bytes + 30, task->count, 2);
+}
+
+struct strips strips_of_task(const struct task *task)
+{
+    return (struct strips){task->e, task->D, task->h, task->m, task->k};
+}
+
+/* ---- refusals ---- */
+
+uint32_t refusal_of_sizes(size_t task_len, size_t slots_len)
+{
+    return task_len != TASK_BYTES || slots_len % SLOT_BYTES != 0 ? 1 : 0;
+}
+
+static bool slots_fit(const struct task *task, const uint8_t *slots)
+{
+    uint32_t previous_end = 0; /* the record before `first` is nobody's previous slot */
+    for (uint32_t i = 0; i < task->count; i++) {
+        const uint8_t *slot = slots + (size_t)(task->first + i) * SLOT_BYTES;
+        uint32_t start = get_number(slot, 4), end = get_number(slot + 4, 4);
+        if (start >= end || end > task->w || start < previous_end)
+            return false;
+        previous_end = end;
+    }
+    return true;
+}
+
+uint32_t refusal_of_strips(const struct strips *s)
+{
+    if (s->e == 0 || s->e > NEED_MAX)
+        return 6;
+    if (s->h == 0 || s->h > PERIOD_MAX)
+        return 7;
+    if (s->D == 0 || s->D > s->h)
+        return 8;
+    if (s->k == 0 || s->k > STRIPS_MAX)
+        return 9;
+    if (s->m > s->k)
+        return 10;
+    return 0;
+}
+
+uint32_t refusal_of_task(const uint8_t *bytes, const uint8_t *slots, size_t slots_len)
+{
+    struct task task = task_of_bytes(bytes);
+    struct strips strips = strips_of_task(&task);
+    if (task.first + task.count > slots_len / SLOT_BYTES)
+        return 3;
+    if (task.w == 0 || task.w > WHEEL_MAX)
+        return 4;
+    if (task.count > SLOTS_MAX || !slots_fit(&task, slots))
+        return 5;
+    return refusal_of_strips(&strips);
+}
+
+uint32_t refusal_of_marks(const uint8_t *marks, uint64_t n, uint64_t v)
+{
+    if (n == 0 || n > SLOTS_MAX || v == 0 || v > WHEEL_MAX || n * v > WHEEL_MAX)
+        return 12;
+    for (uint64_t i = 0; i < n; i++)
+        if (marks[i] > 1)
+            return 12;
+    return 0;
+}
+
+/* ---- rules 1 to 7 ---- */
+
+void wheel_of_task(struct wheel *wheel, const struct task *task, const uint8_t *slots)
+{
+    wheel->w = task->w;
+    memset(wheel->usable, 0, task->w);
+    for (uint32_t i = 0; i < task->count; i++) {
+        const uint8_t *slot = slots + (size_t)(task->first + i) * SLOT_BYTES;
+        uint32_t end = get_number(slot + 4, 4);
+        for (uint32_t tick = get_number(slot, 4); tick < end; tick++)
+            wheel->usable[tick] = 1;
+    }
+}
+
+void wheel_of_grid(struct wheel *wheel, const uint8_t *pick, uint64_t n, uint64_t v)
+{
+    wheel->w = (uint32_t)(n * v);
+    for (uint32_t tick = 0; tick < wheel->w; tick++)
+        wheel->usable[tick] = pick[tick / v] == 1;
+}
+
+/* One turn in cells of 1/q: cell i lies in tick i / q (rule 5). */
+struct cells {
+    uint64_t q, turn;
+    uint8_t usable[Q_MAX * WHEEL_MAX];
+};
+
+static void cut(struct cells *cells, const struct wheel *wheel, uint64_t q)
+{
+    cells->q = q;
+    cells->turn = q * wheel->w;
+    for (uint64_t tick = 0; tick < wheel->w; tick++)
+        memset(cells->usable + tick * q, wheel->usable[tick], q);
+}
+
+static uint32_t usable_cells(const uint8_t *cells, uint64_t n)
+{
+    uint32_t sum = 0;
+    for (uint64_t i = 0; i < n; i++)
+        sum += cells[i];
+    return sum;
+}
+
+/* The cells from p to p + q * D, one by one, turn after turn. */
+static uint64_t supply(const struct cells *cells, uint64_t D, uint64_t p)
+{
+    uint64_t sum = 0, left = cells->q * D, place = p % cells->turn;
+    while (left > 0) {
+        uint64_t run = cells->turn - place < left ? cells->turn - place : left;
+        sum += usable_cells(cells->usable + place, run);
+        left -= run;
+        place = 0;
+    }
+    return sum;
+}
+
+uint64_t supply_at(const struct wheel *wheel, uint64_t D, uint64_t q, uint64_t p)
+{
+    struct cells cells;
+    cut(&cells, wheel, q);
+    return supply(&cells, D, p);
+}
+
+uint32_t count_at(const struct wheel *wheel, const struct strips *strips, uint64_t q, uint64_t p)
+{
+    struct cells cells;
+    uint32_t drops = 0;
+    cut(&cells, wheel, q);
+    for (uint64_t n = 0; n < strips->k; n++)
+        drops += supply(&cells, strips->D, p + n * q * strips->h) < q * strips->e;
+    return drops;
+}
+
+/* The drops of one turn's half ticks are written down once: a place on the wheel is all a strip knows. */
+struct verdict verdict_of(const struct wheel *wheel, const struct strips *strips)
+{
+    static const uint64_t q = 2;
+    struct verdict verdict = {0};
+    struct cells cells;
+    uint8_t dropped[2 * WHEEL_MAX];
+    cut(&cells, wheel, q);
+    for (uint64_t t = 0; t < cells.turn; t++) {
+        uint64_t got = supply(&cells, strips->D, t);
+        dropped[t] = got < q * strips->e;
+        verdict.equal_supply |= got == q * strips->e;
+    }
+    for (uint32_t t = 0; t < cells.turn; t++) {
+        uint32_t drops = 0;
+        uint64_t step = q * strips->h % cells.turn, place = t;
+        for (uint64_t n = 0; n < strips->k; n++) {
+            drops += dropped[place];
+            place += step;
+            if (place >= cells.turn)
+                place -= cells.turn;
+        }
+        if (drops > verdict.worst) {
+            verdict.worst = drops;
+            verdict.offset = t;
+        }
+    }
+    verdict.firm = verdict.worst <= strips->k - strips->m;
+    return verdict;
+}
+
+/* ---- the calls ---- */
+
+uint32_t definition_judge(const uint8_t *task_bytes, size_t task_len, const uint8_t *slots, size_t slots_len,
+                          uint8_t *reply, size_t reply_len, struct verdict *verdict)
+{
+    uint32_t number = refusal_of_sizes(task_len, slots_len);
+    *verdict = (struct verdict){0};
+    if (number != 0)
+        return number;
+    if (reply_len < ANSWER_BYTES)
+        return 2;
+    struct task task = task_of_bytes(task_bytes);
+    number = refusal_of_task(task_bytes, slots, slots_len);
+    if (number == 0) {
+        struct strips strips = strips_of_task(&task);
+        struct wheel wheel;
+        wheel_of_task(&wheel, &task, slots);
+        *verdict = verdict_of(&wheel, &strips);
+    }
+    put_number(reply, task.id, 4);
+    put_number(reply + 4, number, 2);
+    put_number(reply + 6, verdict->firm, 2);
+    put_number(reply + 8, verdict->worst, 4);
+    put_number(reply + 12, verdict->offset, 4);
+    return number;
+}
+
+static uint64_t packed(uint32_t number, uint64_t value)
+{
+    return (uint64_t)number * 4294967296u + value;
+}
+
+uint64_t definition_count(const uint8_t *task_bytes, size_t task_len, const uint8_t *slots, size_t slots_len,
+                          uint64_t offset)
+{
+    uint32_t number = refusal_of_sizes(task_len, slots_len);
+    if (number == 0)
+        number = refusal_of_task(task_bytes, slots, slots_len);
+    if (number != 0)
+        return packed(number, 0);
+    struct task task = task_of_bytes(task_bytes);
+    struct strips strips = strips_of_task(&task);
+    struct wheel wheel;
+    if (offset >= 2 * (uint64_t)task.w)
+        return packed(11, 0);
+    wheel_of_task(&wheel, &task, slots);
+    return packed(0, count_at(&wheel, &strips, 2, offset));
+}
+
+static bool is_firm(const uint8_t *pick, size_t n, uint64_t v, const struct strips *strips)
+{
+    struct wheel wheel;
+    wheel_of_grid(&wheel, pick, n, v);
+    return verdict_of(&wheel, strips).firm;
+}
+
+/* Takes one more free slot each time; what is tried is a copy, so a refusal moves no mark. */
+uint64_t definition_grant(uint8_t *marks, size_t n, uint64_t v, const struct strips *strips)
+{
+    uint8_t pick[SLOTS_MAX] = {0};
+    uint32_t number = refusal_of_marks(marks, n, v);
+    if (number == 0)
+        number = refusal_of_strips(strips);
+    if (number != 0)
+        return packed(number, 0);
+    uint32_t granted = 0;
+    size_t next = 0;
+    while (!is_firm(pick, n, v, strips)) {
+        while (next < n && marks[next] == 0)
+            next++;
+        if (next == n)
+            return packed(13, 0);
+        pick[next++] = 1;
+        granted++;
+    }
+    for (size_t i = 0; i < n; i++)
+        if (pick[i] == 1)
+            marks[i] = 2;
+    return packed(0, granted);
+}
+
+bool some_set_is_firm(const uint8_t *marks, size_t n, uint64_t v, const struct strips *strips)
+{
+    size_t free_slots = 0;
+    for (size_t i = 0; i < n; i++)
+        free_slots += marks[i] == 1;
+    for (uint32_t set = 0; set < 1u << free_slots; set++) {
+        uint8_t pick[SLOTS_MAX] = {0};
+        uint32_t members = set;
+        for (size_t i = 0; i < n; i++)
+            if (marks[i] == 1) {
+                pick[i] = members % 2;
+                members /= 2;
+            }
+        if (is_firm(pick, n, v, strips))
+            return true;
+    }
+    return false;
+}

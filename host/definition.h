@@ -1,0 +1,77 @@
+/*
+ * Document 01 by definition, in the slowest honest way: a tick map, cells of
+ * 1/q, supply by adding up cells. Nothing here is shared with the judge.
+ */
+#ifndef DEFINITION_H
+#define DEFINITION_H
+
+#include "bytes.h"
+
+#include <stdbool.h>
+
+enum {
+    WHEEL_MAX = 16384,
+    SLOTS_MAX = 64,
+    NEED_MAX = 1000000,
+    PERIOD_MAX = 1000000,
+    STRIPS_MAX = 1024,
+    TASK_BYTES = 32,
+    SLOT_BYTES = 8,
+    ANSWER_BYTES = 16,
+    Q_MAX = 12 /* the finest cells tried are twelfths of a tick */
+};
+
+/* A task record's fields. */
+struct task {
+    uint32_t id, w, e, D, h, m, k, first, count;
+};
+
+/* What a strip needs and how many there are; as wide as C hands them over. */
+struct strips {
+    uint64_t e, D, h, m, k;
+};
+
+/* One turn of the wheel: is the tick inside a slot? */
+struct wheel {
+    uint32_t w;
+    uint8_t usable[WHEEL_MAX];
+};
+
+struct verdict {
+    uint32_t worst, offset;
+    bool firm;
+    bool equal_supply; /* some half tick has a supply of exactly e */
+};
+
+struct task task_of_bytes(const uint8_t *bytes);
+void task_to_bytes(const struct task *task, uint8_t *bytes);
+struct strips strips_of_task(const struct task *task);
+
+/* Refusals 1 and 3 to 10 of a task with its slots; 2 is left to judging. */
+uint32_t refusal_of_sizes(size_t task_len, size_t slots_len);
+uint32_t refusal_of_task(const uint8_t *task, const uint8_t *slots, size_t slots_len);
+uint32_t refusal_of_strips(const struct strips *strips);
+uint32_t refusal_of_marks(const uint8_t *marks, uint64_t n, uint64_t v);
+
+void wheel_of_task(struct wheel *wheel, const struct task *task, const uint8_t *slots);
+/* Slot i of n equal ones is usable when pick[i] is 1. */
+void wheel_of_grid(struct wheel *wheel, const uint8_t *pick, uint64_t n, uint64_t v);
+
+/* Rule 2 at p/q, in units of 1/q. */
+uint64_t supply_at(const struct wheel *wheel, uint64_t D, uint64_t q, uint64_t p);
+/* Rule 4 at p/q. */
+uint32_t count_at(const struct wheel *wheel, const struct strips *strips, uint64_t q, uint64_t p);
+/* Rules 6 and 7. */
+struct verdict verdict_of(const struct wheel *wheel, const struct strips *strips);
+
+/* The three calls. A judged reply is written as the archive should write it. */
+uint32_t definition_judge(const uint8_t *task, size_t task_len, const uint8_t *slots, size_t slots_len,
+                          uint8_t *reply, size_t reply_len, struct verdict *verdict);
+uint64_t definition_count(const uint8_t *task, size_t task_len, const uint8_t *slots, size_t slots_len,
+                          uint64_t offset);
+uint64_t definition_grant(uint8_t *marks, size_t n, uint64_t v, const struct strips *strips);
+
+/* Refusal 13 word for word: is any set of the free slots firm? For few free slots. */
+bool some_set_is_firm(const uint8_t *marks, size_t n, uint64_t v, const struct strips *strips);
+
+#endif

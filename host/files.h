@@ -1,0 +1,21 @@
+/* A whole file of a folder in memory. */
+#ifndef FILES_H
+#define FILES_H
+
+#include <stddef.h>
+#include <stdint.h>
+
+enum { PATH_ROOM = 4096 };
+
+struct file {
+    char path[PATH_ROOM]; /* for messages */
+    uint8_t *bytes;       /* the caller frees it */
+    size_t len;
+};
+
+/* FOLDER/NAME into path; 0, or -1 when that is too long. Complains on stderr. */
+int join_path(char path[PATH_ROOM], const char *folder, const char *name);
+/* Reads FOLDER/NAME; 0, or -1 with file and reason on stderr. */
+int read_file(struct file *file, const char *folder, const char *name);
+
+#endif

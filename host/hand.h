@@ -1,0 +1,12 @@
+/* Document 01's cases by hand, as inputs with the outcome that the paper prints. */
+#ifndef HAND_H
+#define HAND_H
+
+#include "tally.h"
+
+/* How many cases there are. */
+size_t hand_count(void);
+/* Makes case i (input->slots must point at SLOTS_ROOM bytes), sets what the paper says of it, gives its name. */
+const char *hand_case(size_t i, struct input *input, struct expected *said);
+
+#endif

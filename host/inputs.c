@@ -1,0 +1,627 @@
+/*
+ * Seeded inputs; see inputs.h. An input starts as an accepted one, tuned so
+ * that supply lies near the need and drops near the allowance; then nearly half
+ * of them are moved to a bound, one past it, or damaged, some in several places
+ * so that the order of refusals shows.
+ */
+#include "inputs.h"
+
+#include <string.h>
+
+#define LENGTH(array) (sizeof(array) / sizeof *(array))
+
+/* Cells that the definition may add up for one input. */
+static const uint64_t small_work = 200000, medium_work = 8000000, large_work = 100000000, huge_work = 3000000000;
+
+enum { MEDIUM_EVERY = 100, LARGE_EVERY = 200, HUGE_EVERY = 20000 };
+
+static const uint64_t two_to_32 = 4294967296u;
+
+struct rng rng_for(uint64_t seed, uint64_t number)
+{
+    return (struct rng){seed * 0x9e3779b97f4a7c15u ^ (number + 1) * 0xd1342543de82ef95u};
+}
+
+/* splitmix64. No expression draws twice in an order left to the compiler: a seed means the same everywhere. */
+static uint64_t draw(struct rng *rng)
+{
+    uint64_t z = rng->state += 0x9e3779b97f4a7c15u;
+    z = (z ^ z >> 30) * 0xbf58476d1ce4e5b9u;
+    z = (z ^ z >> 27) * 0x94d049bb133111ebu;
+    return z ^ z >> 31;
+}
+
+uint64_t below(struct rng *rng, uint64_t n)
+{
+    return draw(rng) % n;
+}
+
+static bool one_in(struct rng *rng, uint64_t n)
+{
+    return below(rng, n) == 0;
+}
+
+static uint64_t pick(struct rng *rng, const uint64_t *from, size_t n)
+{
+    return from[below(rng, n)];
+}
+
+static void scribble(struct rng *rng, uint8_t *bytes, size_t n)
+{
+    for (size_t i = 0; i < n; i++)
+        bytes[i] = (uint8_t)draw(rng);
+}
+
+static uint64_t at_most(uint64_t value, uint64_t bound)
+{
+    return value < bound ? value : bound;
+}
+
+static uint64_t work_for(uint64_t number)
+{
+    if (number % HUGE_EVERY == HUGE_EVERY - 1)
+        return huge_work;
+    if (number % LARGE_EVERY == LARGE_EVERY - 1)
+        return large_work;
+    return number % MEDIUM_EVERY == 0 ? medium_work : small_work;
+}
+
+/* Shortens D and k until the definition can follow; `times` verdicts over a wheel of w. */
+static void trim(struct strips *s, uint64_t w, uint64_t times, uint64_t work)
+{
+    uint64_t share = work / (2 * times * 2 * w);
+    s->D = at_most(s->D, 1 + share / 2);
+    s->k = at_most(s->k, 1 + share);
+    s->k = at_most(s->k, 1 + 4 * work / (Q_MAX * s->D)); /* a judged worst is tried at a fraction, too */
+    s->m = at_most(s->m, s->k);
+}
+
+/* A count adds up k windows only. */
+static void trim_count(struct strips *s, uint64_t work)
+{
+    s->D = at_most(s->D, 1 + work / (2 * s->k));
+}
+
+/* ---- strips ---- */
+
+static uint64_t some_period(struct rng *rng, uint64_t w)
+{
+    switch (below(rng, 8)) {
+    case 0:
+        return at_most(w * (1 + below(rng, 4)), PERIOD_MAX);
+    case 1:
+        return w + 1;
+    case 2:
+        return one_in(rng, 2) ? PERIOD_MAX : 1 + below(rng, PERIOD_MAX);
+    default:
+        return at_most(1 + below(rng, 3 * w), PERIOD_MAX);
+    }
+}
+
+static uint64_t some_deadline(struct rng *rng, uint64_t w, uint64_t h)
+{
+    switch (below(rng, 4)) {
+    case 0:
+        return h;
+    case 1:
+        return at_most(w + 1 + below(rng, w), h);
+    default:
+        return 1 + below(rng, at_most(h, 2 * w));
+    }
+}
+
+/* Powers of two and their neighbours: where a count outgrows a byte, or one more bit of k is looked at. */
+static uint64_t some_strips(struct rng *rng, uint64_t work)
+{
+    const uint64_t edges[] = {127, 128, 129, 255, 256, 256, 257, 511, 512, 513, STRIPS_MAX - 1, STRIPS_MAX, STRIPS_MAX};
+    if (one_in(rng, work == small_work ? 50 : 2))
+        return one_in(rng, 2) ? pick(rng, edges, LENGTH(edges)) : 1 + below(rng, STRIPS_MAX);
+    return 1 + below(rng, one_in(rng, 2) ? 40 : 6);
+}
+
+/* Mostly the supply at some tick, or one beside it: there drops begin and end. */
+static uint64_t some_need(struct rng *rng, const struct wheel *wheel, uint64_t D)
+{
+    uint64_t supply = supply_at(wheel, D, 1, below(rng, wheel->w));
+    switch (below(rng, 24)) {
+    case 0:
+        return D + below(rng, 2);
+    case 1:
+        return 1 + below(rng, D);
+    case 2:
+        return NEED_MAX;
+    case 3:
+    case 4:
+    case 5:
+        return supply + 1;
+    case 6:
+    case 7:
+        return supply > 1 ? supply - 1 : 1;
+    default:
+        return supply > 0 ? supply : 1;
+    }
+}
+
+/* At the allowance (worst = k - m) or one past it, when the verdict is cheap; else anything. */
+static uint64_t some_painted(struct rng *rng, const struct wheel *wheel, const struct strips *s, uint64_t work)
+{
+    if (one_in(rng, 6))
+        return one_in(rng, 2) ? 0 : s->k;
+    if (work <= medium_work && one_in(rng, 3))
+        return at_most(s->k - verdict_of(wheel, s).worst + below(rng, 2), s->k);
+    return below(rng, s->k + 1);
+}
+
+/* A wheel must be there already for the need and m to be tuned. */
+static void tune(struct rng *rng, const struct wheel *wheel, struct strips *s, uint64_t work)
+{
+    s->e = some_need(rng, wheel, s->D);
+    s->m = some_painted(rng, wheel, s, work);
+}
+
+enum field { FIELD_E, FIELD_D, FIELD_H, FIELD_M, FIELD_K, FIELDS };
+
+static uint64_t *field_of(struct strips *s, enum field field)
+{
+    uint64_t *fields[FIELDS] = {&s->e, &s->D, &s->h, &s->m, &s->k};
+    return fields[field];
+}
+
+/* Puts a field on its bound, one past it, or to the ends of its width. */
+static void stretch(struct rng *rng, struct strips *s, enum field field, uint64_t widest)
+{
+    uint64_t bound[FIELDS] = {NEED_MAX, s->h, PERIOD_MAX, s->k, STRIPS_MAX};
+    uint64_t edges[] = {0, bound[field], bound[field] + 1, widest};
+    *field_of(s, field) = pick(rng, edges, LENGTH(edges));
+}
+
+/* ---- slot tables ---- */
+
+struct table {
+    uint32_t n, room; /* room is now and then one slot too many */
+    uint32_t slot[SLOTS_MAX + 1][2];
+};
+
+static void put_slot(struct table *table, uint64_t start, uint64_t end)
+{
+    if (start < end && table->n < table->room) {
+        table->slot[table->n][0] = (uint32_t)start;
+        table->slot[table->n][1] = (uint32_t)end;
+        table->n++;
+    }
+}
+
+/* Slots with gaps; a gap of 0 makes two touch. */
+static void scattered(struct rng *rng, struct table *table, uint64_t w)
+{
+    uint64_t longest = 1 + below(rng, (w + 1) / 2), widest = 1 + below(rng, (w + 1) / 2), at = 0;
+    while (at < w) {
+        uint64_t start = at + below(rng, widest + 1), end = start + 1 + below(rng, longest);
+        put_slot(table, start, at_most(end, w));
+        at = end;
+    }
+}
+
+/* n slots that touch and fill the wheel. */
+static void full(struct table *table, uint64_t w, uint64_t n)
+{
+    for (uint64_t i = 0; i < n; i++)
+        put_slot(table, w * i / n, w * (i + 1) / n);
+}
+
+/* n slots of one length, spread evenly; as many as half the wheel can hold. */
+static void even(struct rng *rng, struct table *table, uint64_t w, uint64_t most)
+{
+    uint64_t n = at_most(most, w / 2 + 1), length = 1 + below(rng, w / n);
+    for (uint64_t i = 0; i < n; i++)
+        put_slot(table, w * i / n, w * i / n + length);
+}
+
+static void some_table(struct rng *rng, struct table *table, uint64_t w)
+{
+    table->n = 0;
+    table->room = SLOTS_MAX + one_in(rng, 20);
+    switch (below(rng, 8)) {
+    case 0:
+        if (one_in(rng, 2))
+            full(table, w, at_most(1 + below(rng, 5), w));
+        break;
+    case 1:
+        even(rng, table, w, table->room);
+        break;
+    case 2:
+    case 3:
+        even(rng, table, w, 1 + below(rng, 5));
+        break;
+    default:
+        scattered(rng, table, w);
+    }
+}
+
+/* Spoils one slot of the table in one of the ways of refusal 5 (or makes it longer, which may be fine). */
+static void spoil_slot(struct rng *rng, struct table *table, uint32_t w)
+{
+    uint32_t *slot = table->slot[below(rng, table->n)];
+    switch (below(rng, 7)) {
+    case 0:
+        slot[0] = slot[1];
+        break;
+    case 1:
+        slot[0] = slot[1] + 1;
+        break;
+    case 2:
+        slot[1] = w + 1;
+        break;
+    case 3:
+        slot[1] = w;
+        break;
+    case 4:
+        slot[0] -= slot[0] > 0;
+        break;
+    case 5:
+        slot[1] = UINT32_MAX;
+        break;
+    default:
+        slot[0] = slot[1] = UINT32_MAX;
+    }
+}
+
+/* ---- judging and counting ---- */
+
+struct draft {
+    struct task task;
+    struct strips strips;
+    struct table table;
+    uint32_t after; /* records behind the task's own */
+};
+
+/* Short enough to follow D to its bound with a large input's work. */
+static const uint64_t tiny_wheel = 12;
+
+/* 2^n, one less or one more, for an n from `from` below `to`: where the size of an array may be chosen. */
+static uint64_t power_or_beside(struct rng *rng, uint64_t from, uint64_t to)
+{
+    uint64_t power = UINT64_C(1) << (from + below(rng, to - from));
+    return power + below(rng, 3) - 1;
+}
+
+static uint64_t large_wheel(struct rng *rng)
+{
+    switch (below(rng, 6)) {
+    case 0:
+        return WHEEL_MAX;
+    case 1:
+        return WHEEL_MAX - 1;
+    case 2:
+        return power_or_beside(rng, 10, 14);
+    case 3:
+        return 1 + below(rng, tiny_wheel);
+    default:
+        return 1 + below(rng, WHEEL_MAX);
+    }
+}
+
+static uint64_t some_wheel(struct rng *rng, uint64_t work)
+{
+    if (work == huge_work)
+        return WHEEL_MAX - below(rng, WHEEL_MAX / 2);
+    if (work == large_work)
+        return large_wheel(rng);
+    if (work == medium_work)
+        return one_in(rng, 2) ? power_or_beside(rng, 4, 13) : 1 + below(rng, 2500);
+    return 1 + below(rng, one_in(rng, 6) ? 200 : 24);
+}
+
+static void wheel_of_table(struct wheel *wheel, const struct table *table, uint32_t w)
+{
+    wheel->w = w;
+    memset(wheel->usable, 0, w);
+    for (uint32_t i = 0; i < table->n; i++)
+        memset(wheel->usable + table->slot[i][0], 1, table->slot[i][1] - table->slot[i][0]);
+}
+
+static void draft_task(struct rng *rng, struct draft *draft, enum kind kind, uint64_t work)
+{
+    struct strips *s = &draft->strips;
+    struct wheel wheel;
+    uint64_t w = some_wheel(rng, work);
+    some_table(rng, &draft->table, w);
+    s->h = some_period(rng, w);
+    s->D = some_deadline(rng, w, s->h);
+    if (work == large_work && w <= tiny_wheel)
+        s->D = s->h = PERIOD_MAX;
+    s->k = some_strips(rng, work);
+    s->m = 0;
+    if (kind == JUDGE)
+        trim(s, w, 1, work);
+    else
+        trim_count(s, work);
+    wheel_of_table(&wheel, &draft->table, (uint32_t)w);
+    tune(rng, &wheel, s, kind == JUDGE ? work : huge_work); /* m plays no part in a count */
+    draft->task.w = (uint32_t)w;
+}
+
+/* A tick, often one where the wheel or an array may end. */
+static uint64_t some_tick(struct rng *rng, uint64_t w)
+{
+    const uint64_t edges[] = {0, 1, w - 2, w - 1, power_or_beside(rng, 4, 15) % w};
+    return one_in(rng, 2) ? pick(rng, edges, LENGTH(edges)) : below(rng, w);
+}
+
+/*
+ * A wheel that is full but for two ticks, and a period that carries a strip
+ * from one to the other, or just beside: two drops meet at one or two half
+ * ticks only, so a single wrong place of a large wheel shows.
+ */
+static void draft_holes(struct rng *rng, struct draft *draft)
+{
+    struct strips *s = &draft->strips;
+    uint64_t w = one_in(rng, 2) ? WHEEL_MAX : 1 + at_most(large_wheel(rng), WHEEL_MAX - 1);
+    uint64_t from = some_tick(rng, w), to = some_tick(rng, w), beside = below(rng, 3);
+    uint64_t low = at_most(from, to), high = from + to - low;
+    draft->table.n = 0;
+    draft->table.room = SLOTS_MAX;
+    put_slot(&draft->table, 0, low);
+    put_slot(&draft->table, low + 1, high);
+    put_slot(&draft->table, high + 1, w);
+    s->h = (to + 2 * w - from - 1 + beside) % w;
+    s->h += w * (3 + below(rng, 3)); /* at least any D below */
+    s->D = s->e = 1 + below(rng, 3);
+    s->k = 2 + below(rng, 3);
+    s->m = below(rng, s->k + 1);
+    draft->task.w = (uint32_t)w;
+}
+
+static void place_slots(struct rng *rng, struct draft *draft)
+{
+    struct task *task = &draft->task;
+    task->id = (uint32_t)draw(rng);
+    task->first = (uint32_t)below(rng, one_in(rng, 1000) ? 65536 : 4);
+    if (one_in(rng, 2000))
+        task->first = 65535;
+    task->count = draft->table.n;
+    draft->after = (uint32_t)below(rng, 3);
+}
+
+/* Moves one field of the draft to a bound or past it. */
+static void damage_draft(struct rng *rng, struct draft *draft)
+{
+    struct task *task = &draft->task;
+    const uint64_t wheels[] = {0, WHEEL_MAX, WHEEL_MAX + 1, UINT32_MAX};
+    const uint64_t counts[] = {SLOTS_MAX, SLOTS_MAX + 1, 65535, task->count + 1};
+    switch (below(rng, 10)) {
+    case 0:
+        task->w = (uint32_t)pick(rng, wheels, LENGTH(wheels));
+        break;
+    case 1:
+        task->count = (uint32_t)pick(rng, counts, LENGTH(counts));
+        draft->after += one_in(rng, 2) ? 70 : 0;
+        break;
+    case 2:
+        task->first = one_in(rng, 2) ? 65535 : task->first + 1;
+        task->first = (uint32_t)at_most(task->first, 65535);
+        break;
+    case 3:
+    case 4:
+        if (draft->table.n > 0)
+            spoil_slot(rng, &draft->table, task->w);
+        break;
+    default:
+        stretch(rng, &draft->strips, (enum field)below(rng, FIELDS), UINT32_MAX);
+    }
+}
+
+/* Lays out the slot buffer: strangers before `first`, the table, strangers after. */
+static void lay_slots(struct rng *rng, struct input *input, const struct draft *draft, size_t first)
+{
+    size_t records = at_most(first + draft->table.n + draft->after, SLOT_RECORDS_MAX);
+    scribble(rng, input->slots, at_most(records, 256) * SLOT_BYTES);
+    if (records > 256)
+        memset(input->slots + 256 * SLOT_BYTES, (int)below(rng, 256), (records - 256) * SLOT_BYTES);
+    for (uint32_t i = 0; i < draft->table.n; i++) {
+        put_number(input->slots + (first + i) * SLOT_BYTES, draft->table.slot[i][0], 4);
+        put_number(input->slots + (first + i) * SLOT_BYTES + 4, draft->table.slot[i][1], 4);
+    }
+    input->slots_len = records * SLOT_BYTES;
+}
+
+static void strips_into_task(struct task *task, const struct strips *s)
+{
+    task->e = (uint32_t)s->e;
+    task->D = (uint32_t)s->D;
+    task->h = (uint32_t)s->h;
+    task->m = (uint32_t)s->m;
+    task->k = (uint32_t)s->k;
+}
+
+static void flip_bit(struct rng *rng, uint8_t *bytes, size_t n)
+{
+    uint8_t *byte = bytes + below(rng, n);
+    *byte ^= (uint8_t)(1u << below(rng, 8));
+}
+
+/* Damage to the bytes and lengths themselves. */
+static void damage_bytes(struct rng *rng, struct input *input)
+{
+    const uint64_t task_lengths[] = {0, 1, 31, 33, TASK_ROOM};
+    switch (below(rng, 8)) {
+    case 0:
+        input->task_len = pick(rng, task_lengths, LENGTH(task_lengths));
+        break;
+    case 1:
+        input->slots_len = at_most(input->slots_len + 1 + below(rng, 7), SLOTS_ROOM);
+        break;
+    case 2:
+        input->slots_len -= at_most(1 + below(rng, 8), input->slots_len);
+        break;
+    case 3:
+        input->slots_len = 0;
+        break;
+    case 4:
+        memset(input->task, one_in(rng, 2) ? 0xff : 0, TASK_BYTES);
+        break;
+    case 5:
+        if (input->slots_len > 0)
+            scribble(rng, input->slots + below(rng, at_most(input->slots_len, 128)), 1);
+        break;
+    default:
+        flip_bit(rng, input->task, TASK_BYTES);
+    }
+}
+
+/* Damage can turn a cheap task into a vast one that is still accepted: trim it back. */
+static void keep_cheap(struct input *input, uint64_t work)
+{
+    if (refusal_of_sizes(input->task_len, input->slots_len) != 0 ||
+        refusal_of_task(input->task, input->slots, input->slots_len) != 0)
+        return;
+    struct task task = task_of_bytes(input->task);
+    struct strips s = strips_of_task(&task);
+    if (input->kind == JUDGE)
+        trim(&s, task.w, 1, work);
+    else
+        trim_count(&s, work);
+    strips_into_task(&task, &s);
+    task_to_bytes(&task, input->task);
+}
+
+static uint64_t some_offset(struct rng *rng, uint64_t w)
+{
+    const uint64_t edges[] = {2 * w - 1, 2 * w, 2 * w + 1, two_to_32, two_to_32 + w, UINT64_MAX, UINT64_MAX / 2 + 1};
+    return w == 0 || one_in(rng, 6) ? pick(rng, edges, LENGTH(edges)) : below(rng, 2 * w);
+}
+
+static size_t some_reply_length(struct rng *rng)
+{
+    const uint64_t lengths[] = {0, 1, 15, 17, 17, REPLY_ROOM};
+    return one_in(rng, 5) ? pick(rng, lengths, LENGTH(lengths)) : ANSWER_BYTES;
+}
+
+static void make_task_input(struct rng *rng, struct input *input, uint64_t work)
+{
+    struct draft draft;
+    if (work == small_work && one_in(rng, 60)) {
+        draft_holes(rng, &draft);
+        work = medium_work;
+    } else {
+        draft_task(rng, &draft, input->kind, work);
+    }
+    place_slots(rng, &draft);
+    size_t first = draft.task.first;
+    bool vast = one_in(rng, 1500); /* enough records for any first and count */
+    if (vast) {
+        draft.after = SLOT_RECORDS_MAX;
+        draft.task.count = one_in(rng, 2) ? 65535 : draft.task.count;
+    }
+    if (vast || one_in(rng, 3))
+        for (uint64_t n = 1 + below(rng, 3); n > 0; n--)
+            damage_draft(rng, &draft);
+    strips_into_task(&draft.task, &draft.strips);
+    scribble(rng, input->task, TASK_ROOM);
+    task_to_bytes(&draft.task, input->task);
+    input->task_len = TASK_BYTES;
+    lay_slots(rng, input, &draft, first);
+    if (one_in(rng, 6))
+        damage_bytes(rng, input);
+    keep_cheap(input, work);
+    input->offset = some_offset(rng, task_of_bytes(input->task).w);
+    input->reply_len = some_reply_length(rng);
+    scribble(rng, input->reply, REPLY_ROOM);
+}
+
+/* ---- granting ---- */
+
+static uint64_t free_slots(const uint8_t *marks, size_t n)
+{
+    uint64_t found = 0;
+    for (size_t i = 0; i < n; i++)
+        found += marks[i] == 1;
+    return found;
+}
+
+static void some_marks(struct rng *rng, uint8_t *marks, size_t n)
+{
+    uint64_t taken_in_four = one_in(rng, 20) ? 4 : below(rng, 3); /* 4: none is free */
+    for (size_t i = 0; i < n; i++)
+        marks[i] = below(rng, 4) >= taken_in_four;
+}
+
+/* The wheel that some of the first free slots would make: a task tuned to it is granted about as many. */
+static void wheel_of_some(struct rng *rng, struct wheel *wheel, const struct input *input)
+{
+    uint8_t taken[SLOTS_MAX] = {0};
+    size_t n = 1 + below(rng, input->marks_len);
+    memcpy(taken, input->marks, one_in(rng, 4) ? input->marks_len : n);
+    wheel_of_grid(wheel, taken, input->marks_len, input->v);
+}
+
+static void damage_grant(struct rng *rng, struct input *input)
+{
+    const uint64_t lengths[] = {0, SLOTS_MAX, SLOTS_MAX + 1, MARKS_ROOM};
+    const uint64_t n = input->marks_len > 0 ? input->marks_len : 1;
+    /* The last four pass a test that looks at 32 bits, or at N * v after it wrapped. */
+    const uint64_t slot_lengths[] = {0, WHEEL_MAX / n, WHEEL_MAX / n + 1, UINT64_MAX,
+                                     two_to_32 + input->v, two_to_32 / n + 1, UINT64_MAX / n + 1,
+                                     UINT64_MAX / 2 + 1};
+    enum field field = (enum field)below(rng, FIELDS);
+    size_t place;
+    switch (below(rng, 6)) {
+    case 0:
+        input->marks_len = pick(rng, lengths, LENGTH(lengths));
+        break;
+    case 1:
+        input->v = pick(rng, slot_lengths, LENGTH(slot_lengths));
+        break;
+    case 2:
+        place = below(rng, n);
+        input->marks[place] = (uint8_t)(one_in(rng, 2) ? 2 : 2 + below(rng, 254));
+        break;
+    case 3:
+        *field_of(&input->strips, field) += two_to_32;
+        break;
+    default:
+        stretch(rng, &input->strips, field, UINT64_MAX);
+    }
+}
+
+static void keep_grant_cheap(struct input *input, uint64_t work)
+{
+    if (refusal_of_marks(input->marks, input->marks_len, input->v) == 0 && refusal_of_strips(&input->strips) == 0)
+        trim(&input->strips, input->marks_len * input->v, 1 + free_slots(input->marks, input->marks_len), work);
+}
+
+static void make_grant_input(struct rng *rng, struct input *input, uint64_t work)
+{
+    struct strips *s = &input->strips;
+    struct wheel wheel;
+    size_t n = 1 + below(rng, one_in(rng, 6) ? SLOTS_MAX : 8);
+    if (one_in(rng, 40))
+        n = SLOTS_MAX;
+    uint64_t longest = work == small_work ? 4 : WHEEL_MAX / n;
+    uint64_t v = one_in(rng, 40) ? WHEEL_MAX / n : 1 + below(rng, longest);
+    input->marks_len = n;
+    input->v = v;
+    some_marks(rng, input->marks, MARKS_ROOM);
+    s->h = some_period(rng, n * v);
+    s->D = some_deadline(rng, n * v, s->h);
+    s->k = some_strips(rng, work);
+    s->m = 0;
+    trim(s, n * v, 1 + free_slots(input->marks, n), work);
+    wheel_of_some(rng, &wheel, input);
+    tune(rng, &wheel, s, work);
+    if (one_in(rng, 3))
+        for (uint64_t i = 1 + below(rng, 2); i > 0; i--)
+            damage_grant(rng, input);
+    keep_grant_cheap(input, work);
+}
+
+void make_input(struct input *input, struct rng *rng, uint64_t number)
+{
+    uint64_t work = work_for(number), kind = below(rng, 10);
+    input->kind = kind < 5 ? JUDGE : kind < 8 ? COUNT : GRANT;
+    input->null_when_empty = one_in(rng, 2);
+    if (input->kind == GRANT)
+        make_grant_input(rng, input, work);
+    else
+        make_task_input(rng, input, work);
+}

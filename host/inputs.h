@@ -1,0 +1,39 @@
+/* Seeded inputs for the second program: one call each, good, at a bound or damaged. */
+#ifndef INPUTS_H
+#define INPUTS_H
+
+#include "definition.h"
+
+enum kind { JUDGE, COUNT, GRANT, KINDS };
+
+enum {
+    TASK_ROOM = 64,
+    SLOT_RECORDS_MAX = 131072, /* first + count can reach 131,070 */
+    SLOTS_ROOM = SLOT_RECORDS_MAX * SLOT_BYTES,
+    REPLY_ROOM = 64,
+    MARKS_ROOM = 300
+};
+
+struct input {
+    enum kind kind;
+    bool null_when_empty; /* hand over NULL for a buffer of length 0 */
+    size_t task_len, slots_len, reply_len, marks_len;
+    uint8_t task[TASK_ROOM], reply[REPLY_ROOM], marks[MARKS_ROOM];
+    uint8_t *slots; /* SLOTS_ROOM bytes, the caller's */
+    uint64_t offset;
+    uint64_t v;
+    struct strips strips; /* a grant's e, d, h, m, k */
+};
+
+struct rng {
+    uint64_t state;
+};
+
+/* Every input has its own row of random numbers, so a failure can be made again alone. */
+struct rng rng_for(uint64_t seed, uint64_t number);
+uint64_t below(struct rng *rng, uint64_t n);
+
+/* Makes input `number` of `seed`; input->slots must point at SLOTS_ROOM bytes. */
+void make_input(struct input *input, struct rng *rng, uint64_t number);
+
+#endif

@@ -1,0 +1,310 @@
+/*
+ * The independent second program: compares the archive with document 01 by
+ * definition, on the paper's cases by hand and on many seeded inputs.
+ *
+ *   second [INPUTS [SEED]]
+ *
+ * Each call's result and the whole of each lent buffer, with guard bytes on
+ * both sides, must be as the definition says; inputs must stay as they were.
+ * The first difference is printed with its seed, number and bytes, and ends
+ * the run. So does, at the end, a class of inputs that was never met.
+ */
+#include "fiddlequill.h"
+#include "hand.h"
+
+#include <inttypes.h>
+#include <stdio.h>
+#include <stdlib.h>
+#include <string.h>
+
+enum {
+    DEFAULT_INPUTS = 200000,
+    DEFAULT_SEED = 20260,
+    GUARD = 64,
+    SETS_MAX = 6,        /* free slots whose sets are all tried after a refusal 13 */
+    SETS_WHEEL_MAX = 48, /* and the longest wheel for it */
+};
+
+/* ---- lent buffers ---- */
+
+struct lent {
+    uint8_t *room; /* guard, some bytes to spoil the alignment, content, guard */
+    size_t lead, len;
+    uint8_t guard;
+    bool null;
+};
+
+struct lent_buffers {
+    struct lent task, slots, reply, marks;
+};
+
+static struct lent lent_room(size_t most)
+{
+    struct lent lent = {.room = malloc(most + 2 * GUARD + 8)};
+    if (lent.room == NULL) {
+        fprintf(stderr, "second: no memory for %zu bytes\n", most);
+        exit(2);
+    }
+    return lent;
+}
+
+static uint8_t *lend(struct lent *lent, const uint8_t *content, size_t len, bool null_when_empty, struct rng *rng)
+{
+    lent->len = len;
+    lent->lead = GUARD + below(rng, 8);
+    lent->guard = (uint8_t)below(rng, 256);
+    lent->null = len == 0 && null_when_empty;
+    memset(lent->room, lent->guard, lent->lead);
+    memcpy(lent->room + lent->lead, content, len);
+    memset(lent->room + lent->lead + len, lent->guard, GUARD);
+    return lent->null ? NULL : lent->room + lent->lead;
+}
+
+static bool all_are(const uint8_t *bytes, size_t n, uint8_t value)
+{
+    for (size_t i = 0; i < n; i++)
+        if (bytes[i] != value)
+            return false;
+    return true;
+}
+
+static bool holds(const struct lent *lent, const uint8_t *content)
+{
+    return all_are(lent->room, lent->lead, lent->guard) &&
+           memcmp(lent->room + lent->lead, content, lent->len) == 0 &&
+           all_are(lent->room + lent->lead + lent->len, GUARD, lent->guard);
+}
+
+/* ---- both sides ---- */
+
+static void define(const struct input *in, struct expected *expected)
+{
+    memcpy(expected->reply, in->reply, REPLY_ROOM);
+    memcpy(expected->marks, in->marks, MARKS_ROOM);
+    if (in->kind == JUDGE)
+        expected->result = definition_judge(in->task, in->task_len, in->slots, in->slots_len, expected->reply,
+                                            in->reply_len, &expected->verdict);
+    else if (in->kind == COUNT)
+        expected->result = definition_count(in->task, in->task_len, in->slots, in->slots_len, in->offset);
+    else
+        expected->result = definition_grant(expected->marks, in->marks_len, in->v, &in->strips);
+}
+
+static uint64_t ask_task(const struct input *in, struct lent_buffers *buffers, struct rng *rng)
+{
+    bool null = in->null_when_empty;
+    const uint8_t *task = lend(&buffers->task, in->task, in->task_len, null, rng);
+    const uint8_t *slots = lend(&buffers->slots, in->slots, in->slots_len, null, rng);
+    if (in->kind == COUNT)
+        return fiddlequill_count(task, in->task_len, slots, in->slots_len, in->offset);
+    uint8_t *reply = lend(&buffers->reply, in->reply, in->reply_len, null, rng);
+    return fiddlequill_judge(task, in->task_len, slots, in->slots_len, reply, in->reply_len);
+}
+
+static uint64_t ask_grant(const struct input *in, struct lent_buffers *buffers, struct rng *rng)
+{
+    const struct strips *s = &in->strips;
+    uint8_t *marks = lend(&buffers->marks, in->marks, in->marks_len, in->null_when_empty, rng);
+    return fiddlequill_grant(marks, in->marks_len, in->v, s->e, s->D, s->h, s->m, s->k);
+}
+
+/* ---- comparing ---- */
+
+static void print_hex(const char *name, const uint8_t *bytes, size_t n)
+{
+    printf("  %s (%zu bytes) ", name, n);
+    for (size_t i = 0; i < n; i++)
+        printf("%02x", bytes[i]);
+    printf("\n");
+}
+
+static void print_input(const struct input *in)
+{
+    const struct strips *s = &in->strips;
+    if (in->kind == GRANT) {
+        print_hex("marks", in->marks, in->marks_len);
+        printf("  v %" PRIu64 " e %" PRIu64 " d %" PRIu64 " h %" PRIu64 " m %" PRIu64 " k %" PRIu64 "\n", in->v, s->e,
+               s->D, s->h, s->m, s->k);
+        return;
+    }
+    print_hex("task", in->task, in->task_len);
+    print_hex("slots", in->slots, in->slots_len);
+    if (in->kind == JUDGE)
+        print_hex("reply before", in->reply, in->reply_len);
+    else
+        printf("  offset %" PRIu64 "\n", in->offset);
+    printf("  NULL for an empty buffer: %s\n", in->null_when_empty ? "yes" : "no");
+}
+
+static bool buffers_hold(const struct input *in, const struct expected *expected, const struct lent_buffers *buffers)
+{
+    if (in->kind == GRANT)
+        return holds(&buffers->marks, expected->marks);
+    return holds(&buffers->task, in->task) && holds(&buffers->slots, in->slots) &&
+           (in->kind == COUNT || holds(&buffers->reply, expected->reply));
+}
+
+static void print_lent(const char *name, const struct lent *lent, const uint8_t *content)
+{
+    printf("  %s: %s\n", name, holds(lent, content) ? "as it should be" : "DIFFERENT");
+    if (!holds(lent, content)) {
+        print_hex("should hold", content, lent->len);
+        print_hex("with guards", lent->room, lent->lead + lent->len + GUARD);
+        printf("  guard byte %02x, %zu of them before the content\n", lent->guard, lent->lead);
+    }
+}
+
+static void print_outcome(const struct input *in, const struct expected *expected, const struct lent_buffers *buffers,
+                          uint64_t result)
+{
+    printf("  result %#" PRIx64 ", by definition %#" PRIx64 "\n", result, expected->result);
+    if (in->kind == GRANT) {
+        print_lent("marks", &buffers->marks, expected->marks);
+        return;
+    }
+    print_lent("task", &buffers->task, in->task);
+    print_lent("slots", &buffers->slots, in->slots);
+    if (in->kind == JUDGE)
+        print_lent("reply", &buffers->reply, expected->reply);
+}
+
+/* Rule 6 at one random p/q, and at the reported half tick, straight from the cells. */
+static bool worst_holds(const struct input *in, const struct lent_buffers *buffers, struct tally *tally,
+                        struct rng *rng)
+{
+    const uint8_t *answer = buffers->reply.room + buffers->reply.lead;
+    uint32_t worst = get_number(answer + 8, 4), at = get_number(answer + 12, 4);
+    struct task task = task_of_bytes(in->task);
+    struct strips strips = strips_of_task(&task);
+    struct wheel wheel;
+    wheel_of_task(&wheel, &task, in->slots);
+    uint64_t q = 1 + below(rng, Q_MAX), p = below(rng, 3 * q * task.w);
+    uint32_t drops = count_at(&wheel, &strips, q, p);
+    tally->met[FRACTION] += q > 2 && drops > 0;
+    if (drops <= worst && count_at(&wheel, &strips, 2, at) == worst)
+        return true;
+    printf("  reported worst %" PRIu32 " at half tick %" PRIu32 ", but %" PRIu64 "/%" PRIu64 " drops %" PRIu32 "\n",
+           worst, at, p, q, drops);
+    return false;
+}
+
+/* Refusal 13 speaks of any set, not only of the first j free slots. */
+static bool no_set_holds(const struct input *in, struct tally *tally)
+{
+    size_t free_slots = 0;
+    for (size_t i = 0; i < in->marks_len; i++)
+        free_slots += in->marks[i] == 1;
+    if (free_slots > SETS_MAX || in->marks_len * in->v > SETS_WHEEL_MAX)
+        return true;
+    tally->met[NEVER_FIRM_SETS] += free_slots > 1;
+    if (!some_set_is_firm(in->marks, in->marks_len, in->v, &in->strips))
+        return true;
+    printf("  refused with 13, but some set of free slots is firm\n");
+    return false;
+}
+
+/* Asks both sides about one input. */
+static bool agree(const struct input *in, struct lent_buffers *buffers, struct tally *tally, struct rng *rng)
+{
+    struct expected expected = {0};
+    define(in, &expected);
+    uint64_t result = in->kind == GRANT ? ask_grant(in, buffers, rng) : ask_task(in, buffers, rng);
+    tally_add(tally, in, &expected);
+    bool same = result == expected.result && buffers_hold(in, &expected, buffers);
+    if (!same)
+        print_outcome(in, &expected, buffers, result);
+    if (same && in->kind == JUDGE && result == 0)
+        same = worst_holds(in, buffers, tally, rng);
+    if (same && in->kind == GRANT && fiddlequill_number(result) == 13)
+        same = no_set_holds(in, tally);
+    if (!same)
+        print_input(in);
+    return same;
+}
+
+/* ---- the run ---- */
+
+static const char *const kind_names[KINDS] = {"judge", "count", "grant"};
+
+/* The definition must say what the paper prints before it may speak for it. */
+static bool said_by_definition(const struct input *in, const struct expected *said)
+{
+    struct expected expected = {0};
+    define(in, &expected);
+    return expected.result == said->result && memcmp(expected.reply, said->reply, REPLY_ROOM) == 0 &&
+           memcmp(expected.marks, said->marks, MARKS_ROOM) == 0;
+}
+
+static bool hand_cases_agree(struct input *in, struct lent_buffers *buffers)
+{
+    struct tally unused = {0}; /* classes must be met by the seeded inputs */
+    struct rng rng = rng_for(0, 0);
+    for (size_t i = 0; i < hand_count(); i++) {
+        struct expected said;
+        const char *name = hand_case(i, in, &said);
+        bool defined = said_by_definition(in, &said);
+        if (!defined || !agree(in, buffers, &unused, &rng)) {
+            printf("second: case by hand \"%s\" differs from %s\n", name, defined ? "the archive" : "the definition");
+            return false;
+        }
+    }
+    printf("second: %zu cases by hand as printed\n", hand_count());
+    return true;
+}
+
+static bool seeded_inputs_agree(struct input *in, struct lent_buffers *buffers, struct tally *tally, uint64_t inputs,
+                                uint64_t seed)
+{
+    for (uint64_t number = 0; number < inputs; number++) {
+        struct rng rng = rng_for(seed, number);
+        make_input(in, &rng, number);
+        if (!agree(in, buffers, tally, &rng)) {
+            printf("second: DIFFERENCE at seed %" PRIu64 ", input %" PRIu64 " (%s)\n", seed, number,
+                   kind_names[in->kind]);
+            return false;
+        }
+    }
+    return true;
+}
+
+static bool run(struct input *in, struct lent_buffers *buffers, uint64_t inputs, uint64_t seed)
+{
+    struct tally tally = {0};
+    if (!hand_cases_agree(in, buffers) || !seeded_inputs_agree(in, buffers, &tally, inputs, seed))
+        return false;
+    unsigned never = tally_print(&tally);
+    printf("second: %" PRIu64 " inputs, 0 differences", inputs);
+    if (never > 0)
+        printf(", but %u classes were NEVER MET", never);
+    printf("\n");
+    return never == 0;
+}
+
+static uint64_t number_argument(const char *text)
+{
+    char *end;
+    uint64_t number = strtoull(text, &end, 10);
+    if (*text < '0' || *text > '9' || *end != '\0') {
+        fprintf(stderr, "second: \"%s\" isn't a number\nusage: second [INPUTS [SEED]]\n", text);
+        exit(2);
+    }
+    return number;
+}
+
+int main(int argc, char **argv)
+{
+    uint64_t inputs = argc > 1 ? number_argument(argv[1]) : DEFAULT_INPUTS;
+    uint64_t seed = argc > 2 ? number_argument(argv[2]) : DEFAULT_SEED;
+    struct lent_buffers buffers = {lent_room(TASK_ROOM), lent_room(SLOTS_ROOM), lent_room(REPLY_ROOM),
+                                   lent_room(MARKS_ROOM)};
+    struct lent slots = lent_room(SLOTS_ROOM);
+    struct input in = {.slots = slots.room};
+    printf("second: seed %" PRIu64 "\n", seed);
+    bool good = run(&in, &buffers, inputs, seed);
+    free(buffers.task.room);
+    free(buffers.slots.room);
+    free(buffers.reply.room);
+    free(buffers.marks.room);
+    free(slots.room);
+    return good ? 0 : 1;
+}

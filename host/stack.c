@@ -1,0 +1,122 @@
+/*
+ * How much stack the calls need, against what the header allows.
+ *
+ * Each call runs on a thread whose stack was painted before; the lowest byte
+ * that lost its paint tells how deep it went. What an empty thread takes is
+ * taken off. Bytes that a call reserves below but never writes aren't seen.
+ */
+#define _DEFAULT_SOURCE
+
+#include "bytes.h"
+#include "fiddlequill.h"
+
+#include <pthread.h>
+#include <stdio.h>
+#include <stdlib.h>
+#include <string.h>
+
+enum { STACK = 1 << 20, PAINT = 0xa5, PAGE = 4096 };
+
+/* The largest wheel, slot table and k; a need that makes some strips drop. */
+struct biggest {
+    uint8_t task[FIDDLEQUILL_TASK_BYTES];
+    uint8_t slots[FIDDLEQUILL_SLOTS_MAX * FIDDLEQUILL_SLOT_BYTES];
+    uint8_t reply[FIDDLEQUILL_ANSWER_BYTES];
+    uint8_t marks[FIDDLEQUILL_GRANT_SLOTS_MAX];
+    uint32_t w, e, h, k, number;
+};
+
+static void fill(struct biggest *b, uint32_t w)
+{
+    const uint32_t pitch = w / FIDDLEQUILL_SLOTS_MAX;
+    b->w = w;
+    b->k = FIDDLEQUILL_STRIPS_MAX;
+    b->h = w + w / 3 + 1;
+    b->e = b->h / 2;
+    const uint32_t fields[] = {1, b->w, b->e, b->h, b->h, 1, b->k};
+    for (size_t i = 0; i < sizeof fields / sizeof *fields; i++)
+        put_number(b->task + 4 * i, fields[i], 4);
+    put_number(b->task + 28, 0, 2);
+    put_number(b->task + 30, FIDDLEQUILL_SLOTS_MAX, 2);
+    for (uint32_t i = 0; i < FIDDLEQUILL_SLOTS_MAX; i++) {
+        put_number(b->slots + i * FIDDLEQUILL_SLOT_BYTES, i * pitch, 4);
+        put_number(b->slots + i * FIDDLEQUILL_SLOT_BYTES + 4, i * pitch + pitch / 2, 4);
+    }
+    memset(b->marks, 1, sizeof b->marks);
+}
+
+static void *idle(void *context)
+{
+    ((struct biggest *)context)->number = FIDDLEQUILL_OK;
+    return NULL;
+}
+
+static void *judge(void *context)
+{
+    struct biggest *b = context;
+    b->number = fiddlequill_judge(b->task, sizeof b->task, b->slots, sizeof b->slots, b->reply, sizeof b->reply);
+    return NULL;
+}
+
+static void *count(void *context)
+{
+    struct biggest *b = context;
+    b->number = fiddlequill_number(fiddlequill_count(b->task, sizeof b->task, b->slots, sizeof b->slots, 1));
+    return NULL;
+}
+
+static void *grant(void *context)
+{
+    struct biggest *b = context;
+    b->number = fiddlequill_number(
+        fiddlequill_grant(b->marks, sizeof b->marks, b->w / sizeof b->marks, b->e, b->h, b->h, b->k, b->k));
+    return NULL;
+}
+
+static void give_up(const char *what)
+{
+    fprintf(stderr, "stack: %s\n", what);
+    exit(2);
+}
+
+/* Bytes of stack that lost their paint. */
+static size_t depth_of(void *(*call)(void *), uint32_t w)
+{
+    struct biggest biggest;
+    pthread_attr_t attributes;
+    pthread_t thread;
+    uint8_t *stack = aligned_alloc(PAGE, STACK);
+    if (stack == NULL)
+        give_up("no memory");
+    memset(stack, PAINT, STACK);
+    fill(&biggest, w);
+    if (pthread_attr_init(&attributes) != 0 || pthread_attr_setstack(&attributes, stack, STACK) != 0 ||
+        pthread_create(&thread, &attributes, call, &biggest) != 0 || pthread_join(thread, NULL) != 0)
+        give_up("no thread");
+    pthread_attr_destroy(&attributes);
+    if (biggest.number != FIDDLEQUILL_OK)
+        give_up(fiddlequill_meaning(biggest.number));
+    size_t untouched = 0;
+    while (untouched < STACK && stack[untouched] == PAINT)
+        untouched++;
+    free(stack);
+    return STACK - untouched;
+}
+
+int main(void)
+{
+    static const struct {
+        const char *name;
+        void *(*call)(void *);
+    } calls[] = {{"judge", judge}, {"count", count}, {"grant", grant}};
+    static const uint32_t wheels[] = {128, 1280, 4096, FIDDLEQUILL_WHEEL_MAX};
+    size_t deepest = 0;
+    for (size_t i = 0; i < sizeof calls / sizeof *calls; i++)
+        for (size_t j = 0; j < sizeof wheels / sizeof *wheels; j++) {
+            size_t depth = depth_of(calls[i].call, wheels[j]) - depth_of(idle, wheels[j]);
+            printf("%s with w %u: %zu bytes\n", calls[i].name, (unsigned)wheels[j], depth);
+            deepest = depth > deepest ? depth : deepest;
+        }
+    printf("stack: %zu bytes at most, %u allowed\n", deepest, FIDDLEQUILL_STACK_BYTES);
+    return deepest <= FIDDLEQUILL_STACK_BYTES ? 0 : 1;
+}

@@ -1,0 +1,115 @@
+/* What the inputs of a run have met. A class that no input met fails the run. */
+#ifndef TALLY_H
+#define TALLY_H
+
+#include "inputs.h"
+
+enum { NUMBERS = 14 }; /* refusals 1 to 13, and 0 */
+
+/* What should come out, by definition. */
+struct expected {
+    uint64_t result; /* as the call returns it: plain for judging, packed otherwise */
+    uint8_t reply[REPLY_ROOM], marks[MARKS_ROOM];
+    struct verdict verdict; /* of an accepted judging */
+};
+
+#define CLASSES(X)                                                                                                     \
+    X(DROPS_NONE, "judged: nothing drops")                                                                             \
+    X(DROPPED, "judged: something drops")                                                                              \
+    X(DROPS_SOME, "judged: something drops, not all")                                                                  \
+    X(DROPS_ALL, "judged: all strips drop")                                                                            \
+    X(WORST_ODD, "judged: the worst offset is an odd half tick")                                                       \
+    X(WORST_ZERO, "judged: something drops and the worst offset is 0")                                                 \
+    X(FIRM, "judged: firm")                                                                                            \
+    X(NOT_FIRM, "judged: not firm")                                                                                    \
+    X(AT_ALLOWANCE, "judged: drops equal to the allowance k - m, above 0")                                             \
+    X(PAST_ALLOWANCE, "judged: drops one past the allowance")                                                          \
+    X(EQUAL_SUPPLY, "judged: a supply of exactly e")                                                                   \
+    X(FRACTION, "judged: a p/q with q above 2 and drops tried")                                                        \
+    X(WIDE_COUNT, "judged: more than 255 strips drop, not all")                                                        \
+    X(COUNT_256, "judged: exactly 256 strips drop")                                                                    \
+    X(LONG_REPLY, "judged: a reply of 17 bytes")                                                                       \
+    X(LARGE_WHEEL, "judged: w above 8,192 and some strips drop")                                                       \
+    X(MANY_STRIPS, "judged: k above 512 and some strips drop")                                                         \
+    X(NO_SLOTS, "accepted: no slots")                                                                                  \
+    X(NULL_SLOTS, "accepted: NULL for slots")                                                                          \
+    X(TOUCHING, "accepted: touching slots")                                                                            \
+    X(FULL_WHEEL, "accepted: slots fill the wheel")                                                                    \
+    X(ALL_SLOTS, "accepted: 64 slots")                                                                                 \
+    X(LONG_DEADLINE, "accepted: D above w")                                                                            \
+    X(WHOLE_TURNS, "accepted: h a multiple of w")                                                                      \
+    X(NEED_OVER_D, "accepted: e above D")                                                                              \
+    X(LEAST_WHEEL, "accepted: w 1")                                                                                    \
+    X(WHEEL_256, "accepted: w 255 to 257")                                                                             \
+    X(WHEEL_2048, "accepted: w 2,047 to 2,049")                                                                        \
+    X(WHEEL_4096, "accepted: w 4,095 to 4,097")                                                                        \
+    X(MOST_WHEEL, "accepted: w 16,384")                                                                                \
+    X(MOST_NEED, "accepted: e 1,000,000")                                                                              \
+    X(MOST_PERIOD, "accepted: h 1,000,000")                                                                            \
+    X(MOST_DEADLINE, "accepted: D 1,000,000")                                                                          \
+    X(MOST_STRIPS, "accepted: k 1,024")                                                                                \
+    X(ALL_PAINTED, "accepted: m equal to k")                                                                           \
+    X(NONE_PAINTED, "accepted: m 0")                                                                                   \
+    X(LAST_RECORDS, "accepted: slots at the very end of the buffer, first above 0")                                    \
+    X(LAST_FIRST, "accepted: first 65,535")                                                                            \
+    X(TASK_EMPTY, "refused 1: a task of 0 bytes")                                                                      \
+    X(TASK_31, "refused 1: a task of 31 bytes")                                                                        \
+    X(TASK_33, "refused 1: a task of 33 bytes")                                                                        \
+    X(SLOTS_ODD, "refused 1: slots not a multiple of 8")                                                               \
+    X(REPLY_EMPTY, "refused 2: a reply of 0 bytes")                                                                    \
+    X(REPLY_15, "refused 2: a reply of 15 bytes")                                                                      \
+    X(ONE_BEYOND, "refused 3: first + count one over the end")                                                         \
+    X(SUM_WIDE, "refused 3: first + count above 65,535 whose low 16 bits would do")                                    \
+    X(ONES, "refused 3: a task of all ones")                                                                           \
+    X(PAST_WHEEL, "refused 4: w 16,385")                                                                               \
+    X(COUNT_65, "refused 5: 65 slots, of which 64 would do")                                                           \
+    X(COUNT_WIDE, "refused 5: count 65,535 with that many records")                                                    \
+    X(ORDER_4_6, "refused 4 before 6: w and e are both bad")                                                           \
+    X(PAST_NEED, "refused 6: e 1,000,001")                                                                             \
+    X(PAST_PERIOD, "refused 7: h 1,000,001")                                                                           \
+    X(PAST_DEADLINE, "refused 8: D one above h")                                                                       \
+    X(PAST_STRIPS, "refused 9: k 1,025")                                                                               \
+    X(PAST_PAINTED, "refused 10: m one above k")                                                                       \
+    X(COUNTED_SOME, "counted: some strips drop, not all")                                                              \
+    X(COUNTED_ODD, "counted: drops from an odd half tick")                                                             \
+    X(LAST_OFFSET, "counted: offset 2w - 1")                                                                           \
+    X(PAST_OFFSET, "refused 11: offset 2w")                                                                            \
+    X(WIDE_OFFSET, "refused 11: an offset above 2^32 whose low half would do")                                         \
+    X(GRANT_NONE, "granted: no slots")                                                                                 \
+    X(GRANT_SOME, "granted: some of the free slots")                                                                   \
+    X(GRANT_ALL, "granted: all free slots")                                                                            \
+    X(GRANT_PAST_TAKEN, "granted: a taken slot before a granted one")                                                  \
+    X(GRANT_64, "granted: N 64")                                                                                       \
+    X(GRANT_16384, "granted: N * v 16,384")                                                                            \
+    X(NEVER_FIRM_FREE, "refused 13: with free slots")                                                                  \
+    X(NEVER_FIRM_TAKEN, "refused 13: with no free slot")                                                               \
+    X(NEVER_FIRM_SETS, "refused 13: every set of two or more free slots tried")                                        \
+    X(MARKS_EMPTY, "refused 12: no marks")                                                                             \
+    X(MARKS_65, "refused 12: N 65")                                                                                    \
+    X(MARK_2, "refused 12: a mark is 2")                                                                               \
+    X(MARK_WIDE, "refused 12: a mark above 2")                                                                         \
+    X(GRANT_NO_V, "refused 12: v 0")                                                                                   \
+    X(GRANT_LONG, "refused 12: N * v just above 16,384")                                                               \
+    X(GRANT_WRAP, "refused 12: N * v fits only after it wrapped at 2^64")                                              \
+    X(WIDE_V, "refused 12: v above 2^32 whose low half would do")                                                      \
+    X(WIDE_E, "refused 6: e above 2^32 whose low half would do")                                                       \
+    X(WIDE_H, "refused 7: h above 2^32 whose low half would do")                                                       \
+    X(WIDE_D, "refused 8: d above 2^32 whose low half would do")                                                       \
+    X(WIDE_K, "refused 9: k above 2^32 whose low half would do")                                                       \
+    X(WIDE_M, "refused 10: m above 2^32 whose low half would do")
+
+#define CLASS_ID(id, text) id,
+enum input_class { CLASSES(CLASS_ID) CLASS_COUNT };
+#undef CLASS_ID
+
+struct tally {
+    uint64_t numbers[KINDS][NUMBERS];
+    uint64_t met[CLASS_COUNT];
+};
+
+/* Notes an input and what should come out of it. */
+void tally_add(struct tally *tally, const struct input *input, const struct expected *expected);
+/* Prints all counts; gives how many classes were never met. */
+unsigned tally_print(const struct tally *tally);
+
+#endif

@@ -1,0 +1,241 @@
+/*
+ * fiddlequill.h - the strip judge, for C and C++.
+ *
+ * This header is the authority on the C interface: what isn't here isn't
+ * published, and what is here holds for every call.
+ *
+ * A processor turns a wheel of w ticks, and a task owns slots of it. A strip
+ * arrives every h ticks and needs e ticks of slot time within D ticks of its
+ * arrival; with less it is dropped. The judge answers, exactly and for every
+ * offset of the first strip, fractions of a tick included:
+ *
+ *   fiddlequill_judge   how many of k strips drop at worst, from which offset,
+ *                       and whether at least m of k are always painted (firm)
+ *   fiddlequill_count   how many of k strips drop from one given offset
+ *   fiddlequill_grant   how many free slots, taken in number order, make a
+ *                       task firm; it marks them
+ *
+ * All three calls fail in one way: they refuse with a number from 1 to 13 and
+ * 0 stands for success. Every input gets an answer or a refusal; no content of
+ * a buffer is undefined behaviour. What the caller must provide is memory: each
+ * pointer has as many readable (reply, marks: writable) bytes as its length
+ * says. NULL is fine where the length is 0. No alignment is needed.
+ *
+ * Threads: there is no global state and no allocation, and the calls are
+ * reentrant. The buffer a call may write to (reply, marks) must not overlap
+ * with another buffer of that call, nor be used by another thread meanwhile.
+ *
+ * Stack: a call needs at most 140 KB, FIDDLEQUILL_STACK_BYTES.
+ */
+#ifndef FIDDLEQUILL_H
+#define FIDDLEQUILL_H
+
+#include <stddef.h>
+#include <stdint.h>
+
+#ifdef __cplusplus
+extern "C" {
+#endif
+
+/* Leaving a refusal unread is nearly always a mistake. */
+#if defined(__GNUC__) || defined(__clang__)
+#define FIDDLEQUILL_CHECK __attribute__((warn_unused_result))
+#else
+#define FIDDLEQUILL_CHECK
+#endif
+
+/* ---- limits: each one is the largest value that is accepted ---- */
+
+#define FIDDLEQUILL_WHEEL_MAX 16384u      /* w, and N * v in a grant; in ticks */
+#define FIDDLEQUILL_SLOTS_MAX 64u         /* slot count of a task */
+#define FIDDLEQUILL_NEED_MAX 1000000u     /* e, in ticks */
+#define FIDDLEQUILL_PERIOD_MAX 1000000u   /* h, in ticks; D is at most h */
+#define FIDDLEQUILL_STRIPS_MAX 1024u      /* k; m is at most k */
+#define FIDDLEQUILL_GRANT_SLOTS_MAX 64u   /* N, the length of the mark buffer */
+
+#define FIDDLEQUILL_STACK_BYTES 143360u   /* 140 KB */
+
+/* ---- record sizes, in bytes ---- */
+
+#define FIDDLEQUILL_TASK_BYTES 32u
+#define FIDDLEQUILL_SLOT_BYTES 8u
+#define FIDDLEQUILL_ANSWER_BYTES 16u
+
+/* ---- refusals ---- */
+
+/* Where several apply, the first in the order listed at the function counts. */
+enum fiddlequill_refusal {
+    FIDDLEQUILL_OK = 0,             /* not refused */
+    FIDDLEQUILL_BAD_LENGTH = 1,     /* a task length other than 32, or slots that aren't whole records */
+    FIDDLEQUILL_SHORT_REPLY = 2,    /* no room for an answer record */
+    FIDDLEQUILL_BEYOND_SLOTS = 3,   /* first + count goes beyond the last slot record */
+    FIDDLEQUILL_BAD_WHEEL = 4,      /* w isn't from 1 to 16,384 */
+    FIDDLEQUILL_BAD_SLOTS = 5,      /* more than 64 slots, or one that doesn't fit (see the slot record) */
+    FIDDLEQUILL_BAD_NEED = 6,       /* e isn't from 1 to 1,000,000 */
+    FIDDLEQUILL_BAD_PERIOD = 7,     /* h isn't from 1 to 1,000,000 */
+    FIDDLEQUILL_BAD_DEADLINE = 8,   /* D isn't from 1 to h */
+    FIDDLEQUILL_BAD_STRIPS = 9,     /* k isn't from 1 to 1,024 */
+    FIDDLEQUILL_BAD_PAINTED = 10,   /* m isn't from 0 to k */
+    FIDDLEQUILL_BEYOND_WHEEL = 11,  /* the offset isn't below 2w half ticks */
+    FIDDLEQUILL_BAD_GRANT = 12,     /* N, v, N * v or a mark is bad (see fiddlequill_grant) */
+    FIDDLEQUILL_NEVER_FIRM = 13     /* no set of the free slots makes the task firm */
+};
+
+/* ---- records: no header, unsigned, little endian, no padding ---- */
+
+/*
+ * Task record, 32 bytes
+ *   offset  bytes  field
+ *        0      4  id      any number; it comes back in the answer
+ *        4      4  w       ticks in one turn of the wheel, 1 to 16,384
+ *        8      4  e       need of a strip in ticks, 1 to 1,000,000; may exceed D
+ *       12      4  D       deadline in ticks after the arrival, 1 to h; may exceed w
+ *       16      4  h       ticks from one arrival to the next, 1 to 1,000,000
+ *       20      4  m       strips to be painted out of k, 0 to k
+ *       24      4  k       strips looked at, 1 to 1,024
+ *       28      2  first   the task's first slot record, counted from 0
+ *       30      2  count   how many slot records are the task's, 0 to 64
+ *
+ * Slot record, 8 bytes
+ *        0      4  start   first tick of the slot
+ *        4      4  end     tick after its last one
+ *   A slot fits when start < end, end <= w, and start is not below the end of
+ *   the slot before it in the same task. Slots may touch, and a task without
+ *   slots is a good one. Records outside first .. first + count - 1 aren't
+ *   looked at.
+ *
+ * Answer record, 16 bytes
+ *        0      4  id      as in the task
+ *        4      2  number  the refusal, 0 for none
+ *        6      2  firm    1 when the worst count is at most k - m, else 0
+ *        8      4  worst   the largest count of drops over all offsets
+ *       12      4  offset  the smallest half tick below 2w with that count
+ *   In a refused task's answer firm, worst and offset are 0.
+ */
+
+/* ---- calls ---- */
+
+/*
+ * Judges one task and gives the refusal number or 0 (not packed).
+ *
+ *   task, task_len     one task record
+ *   slots, slots_len   the slot records that first and count point into
+ *   reply, reply_len   room for one answer record; more room is fine
+ *
+ * Refusals in checking order, and what each writes:
+ *   1, 2                       nothing
+ *   3, 4, 5, 6, 7, 8, 9, 10    reply[0..15]: id, the number, zeros
+ *   0                          reply[0..15]: the whole answer
+ * Never written: reply[16] and beyond, task, slots.
+ *
+ * Success is certain when task_len is 32, slots_len a multiple of 8, reply_len
+ * at least 16, first + count within the slot records, every slot fits, and each
+ * field is in the range given at the task record.
+ */
+FIDDLEQUILL_CHECK
+uint32_t fiddlequill_judge(const uint8_t *task, size_t task_len,
+                           const uint8_t *slots, size_t slots_len,
+                           uint8_t *reply, size_t reply_len);
+
+/*
+ * Counts the dropped strips when the first one arrives at `offset`, in half
+ * ticks. Gives the refusal number and the count, 0 to k, packed in one number:
+ * take it apart with fiddlequill_number and fiddlequill_value.
+ *
+ * Refusals in checking order: 1, 3, 4, 5, 6, 7, 8, 9, 10, 11; each comes with
+ * count 0. (m plays no part in the count, but a bad one is refused all the
+ * same.) All 64 bits of the offset are looked at.
+ * Never written: anything.
+ *
+ * Success is certain when judging the same task and slots with a reply of 16
+ * bytes succeeds and offset is below 2w. The count is at most the judged worst
+ * count, and equals it at the judged worst offset.
+ */
+FIDDLEQUILL_CHECK
+uint64_t fiddlequill_count(const uint8_t *task, size_t task_len,
+                           const uint8_t *slots, size_t slots_len,
+                           uint64_t offset);
+
+/*
+ * Grants a task the first j free slots of a wheel of N equal slots, with the
+ * smallest j that makes it firm. Gives the refusal number and j, 0 to N,
+ * packed like fiddlequill_count's result.
+ *
+ *   marks, marks_len   one byte for each slot, N = marks_len; slot i lasts from
+ *                      tick i * v to (i + 1) * v; 0 is taken, 1 is free
+ *   v                  ticks in a slot; the wheel has w = N * v ticks
+ *   e, d, h, m, k      the task, with the ranges of the task record's fields
+ *                      e, D, h, m, k; all 64 bits of each are looked at
+ *
+ * Refusals in checking order; each comes with j = 0 and moves no mark:
+ *   12   N isn't from 1 to 64, v is 0, the wheel of N * v ticks is longer than
+ *        16,384, or some mark isn't 0 or 1 (a 2 left over must be settled first)
+ *   6, 7, 8, 9, 10   as for a task record
+ *   13   no set of free slots, in number order or not, makes the task firm
+ * On success the marks of the j granted slots become 2.
+ * Never written: any other mark.
+ *
+ * j is 0 exactly when m is 0, and then no mark moves. Success is certain when
+ * 12 and 6 to 10 don't apply and the task is firm with all free slots.
+ */
+FIDDLEQUILL_CHECK
+uint64_t fiddlequill_grant(uint8_t *marks, size_t marks_len, uint64_t v,
+                           uint64_t e, uint64_t d, uint64_t h,
+                           uint64_t m, uint64_t k);
+
+/* ---- helpers ---- */
+
+/* The refusal number in a packed result. */
+static inline uint32_t fiddlequill_number(uint64_t packed)
+{
+    return (uint32_t)(packed >> 32);
+}
+
+/* The count or the granted slots in a packed result; 0 beside a refusal. */
+static inline uint32_t fiddlequill_value(uint64_t packed)
+{
+    return (uint32_t)(packed & 0xffffffffu);
+}
+
+/* One line on a refusal number, for people. Never NULL. */
+static inline const char *fiddlequill_meaning(uint32_t number)
+{
+    switch (number) {
+    case FIDDLEQUILL_OK:
+        return "not refused";
+    case FIDDLEQUILL_BAD_LENGTH:
+        return "the task isn't 32 bytes long, or the slots aren't a multiple of 8 bytes";
+    case FIDDLEQUILL_SHORT_REPLY:
+        return "the reply buffer is shorter than 16 bytes";
+    case FIDDLEQUILL_BEYOND_SLOTS:
+        return "first + count goes beyond the last slot record";
+    case FIDDLEQUILL_BAD_WHEEL:
+        return "the wheel w isn't from 1 to 16,384 ticks";
+    case FIDDLEQUILL_BAD_SLOTS:
+        return "more than 64 slots, or a slot that is empty, leaves the wheel or overlaps the one before";
+    case FIDDLEQUILL_BAD_NEED:
+        return "the need e isn't from 1 to 1,000,000 ticks";
+    case FIDDLEQUILL_BAD_PERIOD:
+        return "the period h isn't from 1 to 1,000,000 ticks";
+    case FIDDLEQUILL_BAD_DEADLINE:
+        return "the deadline D isn't from 1 to h ticks";
+    case FIDDLEQUILL_BAD_STRIPS:
+        return "the number of strips k isn't from 1 to 1,024";
+    case FIDDLEQUILL_BAD_PAINTED:
+        return "m asks for more painted strips than k";
+    case FIDDLEQUILL_BEYOND_WHEEL:
+        return "the offset isn't below 2w half ticks";
+    case FIDDLEQUILL_BAD_GRANT:
+        return "the grant has no slots or over 64, a wheel of 0 or over 16,384 ticks, or a mark other than 0 and 1";
+    case FIDDLEQUILL_NEVER_FIRM:
+        return "no choice of the free slots makes the task firm";
+    default:
+        return "not a refusal number";
+    }
+}
+
+#ifdef __cplusplus
+}
+#endif
+
+#endif
