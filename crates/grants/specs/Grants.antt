@@ -4,6 +4,7 @@
 --     grantRefusal l v e D h m k   12, then 6 to 10, the first that applies
 --     askedFor e D h m k           the rules' task
 --     Marked l j after             the first j free slots have mark 2, the others stay
+--     Drawn l v t j m              m says for each tick whether a strip there is dropped with the first j free slots
 --     FirmSays l v t j r           r says whether the first j free slots are firm
 --     Halving l v t a b            the first b free slots are firm, and no number below a is
 --     Searched l v t r             r is the grant, or says that no choice of the free slots is firm
@@ -12,7 +13,7 @@ use mathlib.Core.Path.{_≡_}
 use mathlib.Core.Logic.{_⊎_}
 use mathlib.Core.Bool.{Bool, true, false, cond}
 use mathlib.Core.List.{List}
-use Prim.Native.Nat.{ℕ, _≤_, _<_}
+use Prim.Native.Nat.{ℕ, _*_, _≤_, _<_}
 use lib.Dec.{ltb}
 use lib.ListN.{length, getD}
 use Rattle.rules.specs.Sums.{any, number}
@@ -21,6 +22,7 @@ use Rattle.rules.specs.Worst.{Firm}
 use Rattle.rules.specs.Grant.{first, gridTicks, Granted, NoChoice}
 use Rattle.limits.specs.Refusal.{_when_, _otherwise_}
 use Rattle.limits.specs.Limits.{gridRefusal, taskRefusal}
+use Rattle.engine.specs.Late.{Late}
 use Rattle.ticks.specs.Total.{freeOf}
 use Rattle.grants.specs.declared.search.Smallest.{Smallest}
 use Rattle.grants.specs.declared.search.Smallest.the-variants.{First, Nothing}
@@ -37,6 +39,10 @@ askedFor e D h m k = record { e = e; D = D; h = h; m = m; k = k }
 pub record Marked (l : List ℕ) (j : ℕ) (after : List ℕ) : Type 0 where
   pub long : length after ≡ length l
   pub each : (i : ℕ) → i < length l → getD after i 0 ≡ cond (first (freeOf l) j i) 2 (getD l i 0)
+
+pub record Drawn (l : List ℕ) (v : ℕ) (t : Task) (j : ℕ) (m : List ℕ) : Type 0 where
+  pub long : length m ≡ length l * v
+  pub late : Late m (gridTicks (length l) v (first (freeOf l) j)) t
 
 pub record FirmSays (l : List ℕ) (v : ℕ) (t : Task) (j : ℕ) (r : Bool) : Type 0 where
   pub yes-firm : r ≡ true → Firm (gridTicks (length l) v (first (freeOf l) j)) t

@@ -4,53 +4,118 @@ ghost use Prim.Native.Nat.{_*_, _≤_, _<_};
 ghost use lib.ListN.{length};
 ghost use Rattle.limits.specs.Limits.{asked, mostTicks};
 ghost use Rattle.counts.specs.Counts.{Within};
-ghost use Rattle.grants.specs.Grants.{FirmSays};
+ghost use Rattle.grants.specs.Grants.{FirmSays, Drawn};
+
 use limits::Task;
 
-// Marks to ticks, ticks to drops, drops to the verdict.
-fn judged(marks: &[u8], v: usize, task: Task, j: usize, total: &mut [u16], map: &mut [u8]) -> bool
+// Marks to ticks, ticks to drops.
+fn draw(marks: &[u8], v: usize, task: Task, j: usize, map: &mut [u8], total: &mut [u16])
     requires { ⌜ (0 < length (now marks) * v) × (length (now marks) * v ≤ mostTicks) × Within task × (task .m ≤ task .k) ⌝ }
-    requires { ⌜ (length (now marks) * v < length (now total)) × (length (now map) ≡ length (now marks) * v) ⌝ }
-    ensures { λ r. ⌜ FirmSays (now (marks .entry)) v (asked task) j r ⌝ }
+    requires { ⌜ (length (now map) ≡ length (now marks) * v) × (length (now marks) * v < length (now total)) ⌝ }
+    ensures { λ _. ⌜ Drawn (now (marks .entry)) v (asked task) j (now (map .exit)) ⌝ }
 {
     ticks::fill_grid(marks, v, j, total);
     counts::late::fill(map, total, marks.len() * v, task);
+}
+
+fn draw_256(marks: &[u8], v: usize, task: Task, j: usize, map: &mut [u8])
+    requires { ⌜ (0 < length (now marks) * v) × (length (now marks) * v ≤ 256) × Within task × (task .m ≤ task .k) ⌝ }
+    requires { ⌜ length (now map) ≡ length (now marks) * v ⌝ }
+    ensures { λ _. ⌜ Drawn (now (marks .entry)) v (asked task) j (now (map .exit)) ⌝ }
+{
+    let mut total = [0u16; 257];
+    draw(marks, v, task, j, map, &mut total);
+}
+
+fn draw_2048(marks: &[u8], v: usize, task: Task, j: usize, map: &mut [u8])
+    requires { ⌜ (0 < length (now marks) * v) × (length (now marks) * v ≤ 2048) × Within task × (task .m ≤ task .k) ⌝ }
+    requires { ⌜ length (now map) ≡ length (now marks) * v ⌝ }
+    ensures { λ _. ⌜ Drawn (now (marks .entry)) v (asked task) j (now (map .exit)) ⌝ }
+{
+    let mut total = [0u16; 2049];
+    draw(marks, v, task, j, map, &mut total);
+}
+
+fn draw_16384(marks: &[u8], v: usize, task: Task, j: usize, map: &mut [u8])
+    requires { ⌜ (0 < length (now marks) * v) × (length (now marks) * v ≤ mostTicks) × Within task × (task .m ≤ task .k) ⌝ }
+    requires { ⌜ length (now map) ≡ length (now marks) * v ⌝ }
+    ensures { λ _. ⌜ Drawn (now (marks .entry)) v (asked task) j (now (map .exit)) ⌝ }
+{
+    let mut total = [0u16; 16385];
+    draw(marks, v, task, j, map, &mut total);
+}
+
+// The map of drops, drawn from a total of the wheel's size.
+fn drawn(marks: &[u8], v: usize, task: Task, j: usize, map: &mut [u8])
+    requires { ⌜ (0 < length (now marks) * v) × (length (now marks) * v ≤ mostTicks) × Within task × (task .m ≤ task .k) ⌝ }
+    requires { ⌜ length (now map) ≡ length (now marks) * v ⌝ }
+    ensures { λ _. ⌜ Drawn (now (marks .entry)) v (asked task) j (now (map .exit)) ⌝ }
+{
+    let w = marks.len() * v;
+    if w <= 256 {
+        return draw_256(marks, v, task, j, map);
+    }
+    if w <= 2048 {
+        return draw_2048(marks, v, task, j, map);
+    }
+    draw_16384(marks, v, task, j, map);
+}
+
+// Drops to the verdict.
+fn judged(marks: &[u8], v: usize, task: Task, j: usize, map: &mut [u8]) -> bool
+    requires { ⌜ (0 < length (now marks) * v) × (length (now marks) * v ≤ mostTicks) × Within task × (task .m ≤ task .k) ⌝ }
+    requires { ⌜ length (now map) ≡ length (now marks) * v ⌝ }
+    ensures { λ r. ⌜ FirmSays (now (marks .entry)) v (asked task) j r ⌝ }
+{
+    drawn(marks, v, task, j, map);
     let peak = engine::worst(map, task.h, task.k);
     (peak.drops as usize) <= task.k - task.m
 }
 
-fn within(marks: &[u8], v: usize, task: Task, j: usize, total: &mut [u16], map: &mut [u8]) -> bool
+// The part of the map that is as long as the wheel.
+fn within(marks: &[u8], v: usize, task: Task, j: usize, map: &mut [u8]) -> bool
     requires { ⌜ (0 < length (now marks) * v) × (length (now marks) * v ≤ mostTicks) × Within task × (task .m ≤ task .k) ⌝ }
-    requires { ⌜ (length (now marks) * v < length (now total)) × (length (now marks) * v ≤ length (now map)) ⌝ }
+    requires { ⌜ length (now marks) * v ≤ length (now map) ⌝ }
     ensures { λ r. ⌜ FirmSays (now (marks .entry)) v (asked task) j r ⌝ }
 {
     let w = marks.len() * v;
-    judged(marks, v, task, j, total, &mut map[..w])
+    judged(marks, v, task, j, &mut map[..w])
+}
+
+fn firm_256(marks: &[u8], v: usize, task: Task, j: usize) -> bool
+    requires { ⌜ (0 < length (now marks) * v) × (length (now marks) * v ≤ 256) × Within task × (task .m ≤ task .k) ⌝ }
+    ensures { λ r. ⌜ FirmSays (now (marks .entry)) v (asked task) j r ⌝ }
+{
+    let mut map = [0u8; 256];
+    within(marks, v, task, j, &mut map)
 }
 
 fn firm_2048(marks: &[u8], v: usize, task: Task, j: usize) -> bool
     requires { ⌜ (0 < length (now marks) * v) × (length (now marks) * v ≤ 2048) × Within task × (task .m ≤ task .k) ⌝ }
     ensures { λ r. ⌜ FirmSays (now (marks .entry)) v (asked task) j r ⌝ }
 {
-    let mut total = [0u16; 2049];
     let mut map = [0u8; 2048];
-    within(marks, v, task, j, &mut total, &mut map)
+    within(marks, v, task, j, &mut map)
 }
 
 fn firm_16384(marks: &[u8], v: usize, task: Task, j: usize) -> bool
     requires { ⌜ (0 < length (now marks) * v) × (length (now marks) * v ≤ mostTicks) × Within task × (task .m ≤ task .k) ⌝ }
     ensures { λ r. ⌜ FirmSays (now (marks .entry)) v (asked task) j r ⌝ }
 {
-    let mut total = [0u16; 16385];
     let mut map = [0u8; 16384];
-    within(marks, v, task, j, &mut total, &mut map)
+    within(marks, v, task, j, &mut map)
 }
 
+// Arrays come in a few sizes, so that a small wheel doesn't clear large ones.
 pub fn firm(marks: &[u8], v: usize, task: Task, j: usize) -> bool
     requires { ⌜ (0 < length (now marks) * v) × (length (now marks) * v ≤ mostTicks) × Within task × (task .m ≤ task .k) ⌝ }
     ensures { λ r. ⌜ FirmSays (now (marks .entry)) v (asked task) j r ⌝ }
 {
-    if marks.len() * v <= 2048 {
+    let w = marks.len() * v;
+    if w <= 256 {
+        return firm_256(marks, v, task, j);
+    }
+    if w <= 2048 {
         return firm_2048(marks, v, task, j);
     }
     firm_16384(marks, v, task, j)

@@ -1,68 +1,123 @@
-// The worst count and offset of an accepted job. Arrays come in a few sizes, so that a small wheel doesn't clear large ones.
+// The worst count and offset of an accepted job. Arrays come in a few sizes, so that a small wheel doesn't clear large ones, and the running
+// total is gone before the engine's own arrays come.
 ghost use mathlib.Core.Path.{_≡_};
 ghost use Prim.Native.Nat.{_≤_, _<_};
 ghost use lib.ListN.{length};
 ghost use Rattle.limits.specs.Limits.{asked};
 ghost use Rattle.rules.specs.Worst.{Worst};
-ghost use Rattle.judge.specs.Jobs.{Good, jobTicks};
+ghost use Rattle.judge.specs.Jobs.{Good, jobTicks, Drawn};
+
 use engine::Peak;
 use records::Job;
 
-// Bytes to ticks, ticks to drops, drops to the worst.
-fn solve(slots: &[u8], job: Job, total: &mut [u16], map: &mut [u8]) -> Peak
-    requires { ⌜ Good (now slots) job × (job .w < length (now total)) × (length (now map) ≡ job .w) ⌝ }
-    ensures { λ r. ⌜ Worst (job .w) (jobTicks (now (slots .entry)) job) (asked (job .task)) (r .drops) (r .offset) ⌝ }
+// Bytes to ticks, ticks to drops.
+fn draw(slots: &[u8], job: Job, map: &mut [u8], total: &mut [u16])
+    requires { ⌜ Good (now slots) job × (length (now map) ≡ job .w) × (job .w < length (now total)) ⌝ }
+    ensures { λ _. ⌜ Drawn (now (slots .entry)) job (now (map .exit)) ⌝ }
 {
     let w = job.w;
-    let task = job.task;
     ticks::fill(slots, job.first, job.count, w, total);
-    counts::late::fill(map, total, w, task);
+    counts::late::fill(map, total, w, job.task);
+}
+
+fn draw_256(slots: &[u8], job: Job, map: &mut [u8])
+    requires { ⌜ Good (now slots) job × (length (now map) ≡ job .w) × (job .w ≤ 256) ⌝ }
+    ensures { λ _. ⌜ Drawn (now (slots .entry)) job (now (map .exit)) ⌝ }
+{
+    let mut total = [0u16; 257];
+    draw(slots, job, map, &mut total);
+}
+
+fn draw_2048(slots: &[u8], job: Job, map: &mut [u8])
+    requires { ⌜ Good (now slots) job × (length (now map) ≡ job .w) × (job .w ≤ 2048) ⌝ }
+    ensures { λ _. ⌜ Drawn (now (slots .entry)) job (now (map .exit)) ⌝ }
+{
+    let mut total = [0u16; 2049];
+    draw(slots, job, map, &mut total);
+}
+
+fn draw_4096(slots: &[u8], job: Job, map: &mut [u8])
+    requires { ⌜ Good (now slots) job × (length (now map) ≡ job .w) × (job .w ≤ 4096) ⌝ }
+    ensures { λ _. ⌜ Drawn (now (slots .entry)) job (now (map .exit)) ⌝ }
+{
+    let mut total = [0u16; 4097];
+    draw(slots, job, map, &mut total);
+}
+
+fn draw_16384(slots: &[u8], job: Job, map: &mut [u8])
+    requires { ⌜ Good (now slots) job × (length (now map) ≡ job .w) × (job .w ≤ 16384) ⌝ }
+    ensures { λ _. ⌜ Drawn (now (slots .entry)) job (now (map .exit)) ⌝ }
+{
+    let mut total = [0u16; 16385];
+    draw(slots, job, map, &mut total);
+}
+
+// The map of drops, drawn from a total of the wheel's size.
+fn drawn(slots: &[u8], job: Job, map: &mut [u8])
+    requires { ⌜ Good (now slots) job × (length (now map) ≡ job .w) ⌝ }
+    ensures { λ _. ⌜ Drawn (now (slots .entry)) job (now (map .exit)) ⌝ }
+{
+    let w = job.w;
+    if w <= 256 {
+        return draw_256(slots, job, map);
+    }
+    if w <= 2048 {
+        return draw_2048(slots, job, map);
+    }
+    if w <= 4096 {
+        return draw_4096(slots, job, map);
+    }
+    draw_16384(slots, job, map);
+}
+
+// Drops to the worst, on the part of the map that is as long as the wheel.
+fn solve(slots: &[u8], job: Job, map: &mut [u8]) -> Peak
+    requires { ⌜ Good (now slots) job × (length (now map) ≡ job .w) ⌝ }
+    ensures { λ r. ⌜ Worst (job .w) (jobTicks (now (slots .entry)) job) (asked (job .task)) (r .drops) (r .offset) ⌝ }
+{
+    drawn(slots, job, map);
+    let task = job.task;
     engine::worst(map, task.h, task.k)
 }
 
-// The part of the map that is as long as the wheel.
-fn within(slots: &[u8], job: Job, total: &mut [u16], map: &mut [u8]) -> Peak
-    requires { ⌜ Good (now slots) job × (job .w < length (now total)) × (job .w ≤ length (now map)) ⌝ }
+fn within(slots: &[u8], job: Job, map: &mut [u8]) -> Peak
+    requires { ⌜ Good (now slots) job × (job .w ≤ length (now map)) ⌝ }
     ensures { λ r. ⌜ Worst (job .w) (jobTicks (now (slots .entry)) job) (asked (job .task)) (r .drops) (r .offset) ⌝ }
 {
     let w = job.w;
-    solve(slots, job, total, &mut map[..w])
+    solve(slots, job, &mut map[..w])
 }
 
 fn peak_256(slots: &[u8], job: Job) -> Peak
     requires { ⌜ Good (now slots) job × (job .w ≤ 256) ⌝ }
     ensures { λ r. ⌜ Worst (job .w) (jobTicks (now (slots .entry)) job) (asked (job .task)) (r .drops) (r .offset) ⌝ }
 {
-    let mut total = [0u16; 257];
     let mut map = [0u8; 256];
-    within(slots, job, &mut total, &mut map)
+    within(slots, job, &mut map)
 }
 
 fn peak_2048(slots: &[u8], job: Job) -> Peak
     requires { ⌜ Good (now slots) job × (job .w ≤ 2048) ⌝ }
     ensures { λ r. ⌜ Worst (job .w) (jobTicks (now (slots .entry)) job) (asked (job .task)) (r .drops) (r .offset) ⌝ }
 {
-    let mut total = [0u16; 2049];
     let mut map = [0u8; 2048];
-    within(slots, job, &mut total, &mut map)
+    within(slots, job, &mut map)
 }
 
 fn peak_4096(slots: &[u8], job: Job) -> Peak
     requires { ⌜ Good (now slots) job × (job .w ≤ 4096) ⌝ }
     ensures { λ r. ⌜ Worst (job .w) (jobTicks (now (slots .entry)) job) (asked (job .task)) (r .drops) (r .offset) ⌝ }
 {
-    let mut total = [0u16; 4097];
     let mut map = [0u8; 4096];
-    within(slots, job, &mut total, &mut map)
+    within(slots, job, &mut map)
 }
 
 fn peak_16384(slots: &[u8], job: Job) -> Peak
     requires { ⌜ Good (now slots) job × (job .w ≤ 16384) ⌝ }
     ensures { λ r. ⌜ Worst (job .w) (jobTicks (now (slots .entry)) job) (asked (job .task)) (r .drops) (r .offset) ⌝ }
 {
-    let mut total = [0u16; 16385];
     let mut map = [0u8; 16384];
-    within(slots, job, &mut total, &mut map)
+    within(slots, job, &mut map)
 }
 
 pub fn peak(slots: &[u8], job: Job) -> Peak

@@ -53,10 +53,29 @@ fn look_in(slots: &[u8], job: Job, x: usize, n: usize, total: &mut [u16]) -> Sig
     }
 }
 
-pub fn look(slots: &[u8], job: Job, x: usize, n: usize) -> Sight
-    requires { ⌜ Good (now slots) job × (x < 2 * job .w) × (n ≤ mostStrips) ⌝ }
+fn look_2048(slots: &[u8], job: Job, x: usize, n: usize) -> Sight
+    requires { ⌜ Good (now slots) job × (x < 2 * job .w) × (n ≤ mostStrips) × (job .w ≤ 2048) ⌝ }
+    ensures { λ r. ⌜ Seen (now (slots .entry)) job x n (r .supply) (r .drops) ⌝ }
+{
+    let mut total = [0u16; 2049];
+    look_in(slots, job, x, n, &mut total)
+}
+
+fn look_16384(slots: &[u8], job: Job, x: usize, n: usize) -> Sight
+    requires { ⌜ Good (now slots) job × (x < 2 * job .w) × (n ≤ mostStrips) × (job .w ≤ 16384) ⌝ }
     ensures { λ r. ⌜ Seen (now (slots .entry)) job x n (r .supply) (r .drops) ⌝ }
 {
     let mut total = [0u16; 16385];
     look_in(slots, job, x, n, &mut total)
+}
+
+// A small wheel doesn't clear the largest total.
+pub fn look(slots: &[u8], job: Job, x: usize, n: usize) -> Sight
+    requires { ⌜ Good (now slots) job × (x < 2 * job .w) × (n ≤ mostStrips) ⌝ }
+    ensures { λ r. ⌜ Seen (now (slots .entry)) job x n (r .supply) (r .drops) ⌝ }
+{
+    if job.w <= 2048 {
+        return look_2048(slots, job, x, n);
+    }
+    look_16384(slots, job, x, n)
 }

@@ -1,17 +1,11 @@
--- `grants::trial::judged` meets its contract: each call's promise is what the next one asks (proofs/Trials.antt). Assumes nothing.
-use Rattle.grants.proofs.Trials.{trial-wheel, trial-total, trial-says}
+-- `grants::trial::judged` meets its contract: the map that was drawn, judged by the engine (proofs/Trials.antt). Assumes nothing.
+use Rattle.grants.proofs.Trials.{trial-says}
 use borrow.Author.Needs.{needs}
 use Rattle.grants.proofs.trial.judged.Statement.{statement}
 use Rattle.grants.proofs.trial.judged.Tie as tie
 
-fill-grid-requires : tie.Need-fill-grid-requires
-fill-grid-requires c κs = search needs
-
-mul-fill : tie.Need-mul-fill
-mul-fill c = search needs
-
-fill-requires : tie.Need-fill-requires
-fill-requires c κs = (trial-total (c .before .before .before .before .before .before .before .before .before .args .marks .now) (c .before .before .before .before .before .before .before .before .before .args .v) (c .before .before .before .before .before .before .before .before .before .args .task) (c .before .before .before .before .before .before .before .before .before .args .j) (c .before .before .before .before .before .before .before .before .before .pre .0 .0) _ (c .before .before .before .before .fill-grid .ensures .1) (c .before .before .before .before .before .before .before .before .before .pre .0 .1) _ (c .before .before .before .before .fill-grid .ensures .0) (c .before .before .before .before .before .before .before .before .before .pre .1 .0), c .before .before .before .before .before .before .before .before .before .pre .1 .1, c .before .before .before .before .before .before .before .before .before .pre .0 .2)
+drawn-requires : tie.Need-drawn-requires
+drawn-requires c κs = search needs
 
 worst-requires : tie.Need-worst-requires
 worst-requires c κs = search needs
@@ -25,23 +19,9 @@ sub-result c = search needs
 same-length : tie.Need-same-length
 same-length c = search needs
 
-same-length-2 : tie.Need-same-length-2
-same-length-2 c = search needs
-
 returns : tie.Need-returns
-returns c = trial-says (c .before .before .before .before .before .before .before .before .before .before .before .before .before .before .before .before .args .marks .now) (c .before .before .before .before .before .before .before .before .before .before .before .before .before .before .before .before .args .v) (c .before .before .before .before .before .before .before .before .before .before .before .before .before .before .before .before .args .task) (c .before .before .before .before .before .before .before .before .before .before .before .before .before .before .before .before .args .j) (c .before .before .before .before .before .before .before .before .before .before .before .before .before .before .before .before .pre .0 .0) _ _ _ (c .before .before .before .before .before .before .fill .ensures .0)
-    (c .before .before .before .before .before .before .fill .ensures .1 _ (trial-wheel (c .before .before .before .before .before .before .before .before .before .before .before .before .before .before .before .before .args .marks .now) (c .before .before .before .before .before .before .before .before .before .before .before .before .before .before .before .before .args .v) (c .before .before .before .before .before .before .before .before .before .before .before .before .before .before .before .before .args .task) (c .before .before .before .before .before .before .before .before .before .before .before .before .before .before .before .before .args .j) (c .before .before .before .before .before .before .before .before .before .before .before .before .before .before .before .before .pre .0 .0)) (c .before .before .before .before .before .before .before .before .before .before .before .fill-grid .ensures .1)) (c .before .before .worst .ensures)
+returns c = trial-says (c .before .before .before .before .before .before .before .before .before .before .args .marks .now) (c .before .before .before .before .before .before .before .before .before .before .args .v) (c .before .before .before .before .before .before .before .before .before .before .args .task) (c .before .before .before .before .before .before .before .before .before .before .args .j) (c .before .before .before .before .before .before .before .before .before .before .pre .0 .0) _ _ _ (c .before .before .before .before .before .before .drawn .ensures .long) (c .before .before .before .before .before .before .drawn .ensures .late) (c .before .before .worst .ensures)
 
 pub judged-spec : {M : Type 1} → statement M
 judged-spec =
-    tie.close
-    (tie.spec
-    fill-grid-requires
-    mul-fill
-    fill-requires
-    worst-requires
-    cast-result
-    sub-result
-    same-length
-    same-length-2
-    returns)
+    tie.close (tie.spec drawn-requires worst-requires cast-result sub-result same-length returns)

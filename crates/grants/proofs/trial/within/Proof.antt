@@ -12,16 +12,13 @@ slice-relend-prefix-judged : tie.Need-slice-relend-prefix-judged
 slice-relend-prefix-judged c = search needs
 
 slice-aggregate-judged : tie.Need-slice-aggregate-judged
-slice-aggregate-judged c = sym (length-take-le _ _ (c .before .before .before .before .before .pre .1 .1))
+slice-aggregate-judged c = sym (length-take-le _ _ (c .before .before .before .pre .1))
 
 judged-requires : tie.Need-judged-requires
-judged-requires c κs = (c .before .before .before .before .before .pre .0, (c .before .before .before .before .before .pre .1 .0, length-take-le _ _ (c .before .before .before .before .before .pre .1 .1)))
+judged-requires c κs = (c .before .before .before .pre .0, length-take-le _ _ (c .before .before .before .pre .1))
 
 same-length : tie.Need-same-length
 same-length c = search needs
-
-same-length-2 : tie.Need-same-length-2
-same-length-2 c = search needs
 
 returns : tie.Need-returns
 returns c = search needs
@@ -35,5 +32,4 @@ within-spec =
     slice-aggregate-judged
     judged-requires
     same-length
-    same-length-2
     returns)

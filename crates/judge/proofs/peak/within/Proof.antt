@@ -9,16 +9,13 @@ slice-relend-prefix-solve : tie.Need-slice-relend-prefix-solve
 slice-relend-prefix-solve c = search needs
 
 slice-aggregate-solve : tie.Need-slice-aggregate-solve
-slice-aggregate-solve c = sym (length-take-le _ _ (c .before .before .before .before .before .pre .2))
+slice-aggregate-solve c = sym (length-take-le _ _ (c .before .before .before .pre .1))
 
 solve-requires : tie.Need-solve-requires
-solve-requires c κs = (c .before .before .before .before .before .pre .0, c .before .before .before .before .before .pre .1, length-take-le _ _ (c .before .before .before .before .before .pre .2))
+solve-requires c κs = (c .before .before .before .pre .0, length-take-le _ _ (c .before .before .before .pre .1))
 
 same-length : tie.Need-same-length
 same-length c = search needs
-
-same-length-2 : tie.Need-same-length-2
-same-length-2 c = search needs
 
 returns : tie.Need-returns
 returns c = search needs
@@ -26,10 +23,4 @@ returns c = search needs
 pub within-spec : {M : Type 1} → statement M
 within-spec =
     tie.close
-    (tie.spec
-    slice-relend-prefix-solve
-    slice-aggregate-solve
-    solve-requires
-    same-length
-    same-length-2
-    returns)
+    (tie.spec slice-relend-prefix-solve slice-aggregate-solve solve-requires same-length returns)
