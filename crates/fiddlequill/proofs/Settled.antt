@@ -82,13 +82,13 @@ same-number l v e D h m k n n′ j j′ after after′ a b (no bad) = a .refused
 same-number l v e D h m k n n′ j j′ after after′ a b (yes good) =
     ⊎-elim
     (λ (p : n ≡ 0). ⊎-elim
-        (λ (q : n′ ≡ 0). p ∙ sym q)
-        (λ (q : n′ ≡ 13). absurd (grant-unique _ _ _ _ _ (a .granted p) .1 (b .none q)))
-        (b .outcome good))
+    (λ (q : n′ ≡ 0). p ∙ sym q)
+    (λ (q : n′ ≡ 13). absurd (grant-unique _ _ _ _ _ (a .granted p) .1 (b .none q)))
+    (b .outcome good))
     (λ (p : n ≡ 13). ⊎-elim
-        (λ (q : n′ ≡ 0). absurd (grant-unique _ _ _ _ _ (b .granted q) .1 (a .none p)))
-        (λ (q : n′ ≡ 13). p ∙ sym q)
-        (b .outcome good))
+    (λ (q : n′ ≡ 0). absurd (grant-unique _ _ _ _ _ (b .granted q) .1 (a .none p)))
+    (λ (q : n′ ≡ 13). p ∙ sym q)
+    (b .outcome good))
     (a .outcome good)
 
 same-marks : (l : List ℕ) (j : ℕ) (after after′ : List ℕ) → Marked l j after → Marked l j after′ → after ≡ after′

@@ -31,7 +31,15 @@ pub extern "C" fn fiddlequill_count(task: &[u8], slots: &[u8], offset: u64) -> u
 
 // Grants the first free slots; the refusal number and how many were granted, packed. A grant turns their marks into 2.
 #[no_mangle]
-pub extern "C" fn fiddlequill_grant(marks: &mut [u8], v: u64, e: u64, d: u64, h: u64, m: u64, k: u64) -> u64
+pub extern "C" fn fiddlequill_grant(
+    marks: &mut [u8],
+    v: u64,
+    e: u64,
+    d: u64,
+    h: u64,
+    m: u64,
+    k: u64,
+) -> u64
     ensures { λ r. ⌜ PackedGrant (now (marks .entry)) v e d h m k r (now (marks .exit)) ⌝ }
 {
     let granted = grants::grant(marks, v, e, d, h, m, k);

@@ -5,7 +5,6 @@ ghost use lib.ListN.{length};
 ghost use Rattle.limits.specs.Limits.{asked, mostTicks};
 ghost use Rattle.counts.specs.Counts.{Within};
 ghost use Rattle.grants.specs.Grants.{FirmSays, Drawn};
-
 use limits::Task;
 
 // Marks to ticks, ticks to drops.

@@ -6,7 +6,6 @@ ghost use lib.ListN.{length};
 ghost use Rattle.limits.specs.Limits.{asked};
 ghost use Rattle.rules.specs.Worst.{Worst};
 ghost use Rattle.judge.specs.Jobs.{Good, jobTicks, Drawn};
-
 use engine::Peak;
 use records::Job;
 

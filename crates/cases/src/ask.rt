@@ -1,0 +1,88 @@
+// A question to the judge, and a line with all that came back.
+use crate::build::Asked;
+
+// From a half tick: the drop count.
+pub fn count(name: &[u8], a: Asked, slots: &[u8], offset: u64) {
+    let task = crate::build::task(a);
+    let r = judge::count(&task, slots, offset);
+    crate::print::answer_from(b"count ", name, offset, r.number);
+    crate::print::text(b", count ");
+    crate::print::number(r.count as u64);
+    crate::print::text(b"\n");
+}
+
+// At a half tick: the supply, and whether a strip is dropped.
+pub fn supply(name: &[u8], a: Asked, slots: &[u8], offset: u64) {
+    let task = crate::build::task(a);
+    let s = judge::supply(&task, slots, offset);
+    crate::print::answer_from(b"supply ", name, offset, s.number);
+    crate::print::text(b", supply ");
+    crate::print::number(s.supply);
+    let t = judge::drop_test(&task, slots, offset);
+    crate::print::text(b"; drop test: refusal ");
+    crate::print::number(t.number as u64);
+    if t.dropped {
+        crate::print::text(b", dropped\n");
+    } else {
+        crate::print::text(b", not dropped\n");
+    }
+}
+
+// The numbers of an answer record.
+fn record(reply: &[u8; 24]) {
+    crate::print::text(b"; id ");
+    crate::print::number(octets::four(reply, 0) as u64);
+    crate::print::text(b", number ");
+    crate::print::number(octets::two(reply, 4) as u64);
+    crate::print::text(b", firm ");
+    crate::print::number(octets::two(reply, 6) as u64);
+    crate::print::text(b", worst ");
+    crate::print::number(octets::four(reply, 8) as u64);
+    crate::print::text(b" at ");
+    crate::print::number(octets::four(reply, 12) as u64);
+}
+
+// Whether the bytes behind the record are those that were there.
+fn tail(reply: &[u8; 24]) {
+    let before = [170u8; 8];
+    let whole = &reply[..];
+    if check::same(&whole[16..], &before) {
+        crate::print::text(b", tail kept");
+    } else {
+        crate::print::text(b", tail written");
+    }
+}
+
+// Judging, with a reply buffer that is longer than a record and full of 170.
+pub fn judge_bytes(name: &[u8], task: &[u8], slots: &[u8]) {
+    let before = [170u8; 24];
+    let mut reply = [170u8; 24];
+    let n = judge::judge(task, slots, &mut reply);
+    crate::print::answer(b"judge ", name, n);
+    if check::same(&reply, &before) {
+        crate::print::text(b"; reply kept\n");
+        return;
+    }
+    record(&reply);
+    tail(&reply);
+    crate::print::text(b"\n");
+}
+
+pub fn judge(name: &[u8], a: Asked, slots: &[u8]) {
+    let task = crate::build::task(a);
+    judge_bytes(name, &task, slots);
+}
+
+// Judging with a reply buffer one byte short of a record.
+pub fn judge_short(name: &[u8], a: Asked, slots: &[u8]) {
+    let task = crate::build::task(a);
+    let before = [170u8; 15];
+    let mut reply = [170u8; 15];
+    let n = judge::judge(&task, slots, &mut reply);
+    crate::print::answer(b"judge ", name, n);
+    if check::same(&reply, &before) {
+        crate::print::text(b"; reply kept\n");
+    } else {
+        crate::print::text(b"; reply written\n");
+    }
+}

@@ -1,0 +1,114 @@
+// Task and slot records from numbers.
+ghost use Prim.Native.Nat.{_<_};
+
+// A task record's numbers, in its order.
+pub struct Asked {
+    pub id: u32,
+    pub w: u32,
+    pub e: u32,
+    pub d: u32,
+    pub h: u32,
+    pub m: u32,
+    pub k: u32,
+    pub first: u32,
+    pub count: u32,
+}
+
+// The paper's T, with m 1.
+pub fn t() -> Asked {
+    Asked {
+        id: 2,
+        w: 10,
+        e: 4,
+        d: 5,
+        h: 14,
+        m: 1,
+        k: 2,
+        first: 0,
+        count: 1,
+    }
+}
+
+// Byte i of a number is what stands over 256 to the i, modulo 256.
+fn byte(x: u32, over: u32) -> u8
+    requires { ⌜ 0 < over ⌝ }
+{
+    (x / over % 256) as u8
+}
+
+fn four(x: u32) -> [u8; 4] {
+    [byte(x, 1), byte(x, 256), byte(x, 65536), byte(x, 16777216)]
+}
+
+pub fn slot(start: u32, end: u32) -> [u8; 8] {
+    let s = four(start);
+    let e = four(end);
+    [s[0], s[1], s[2], s[3], e[0], e[1], e[2], e[3]]
+}
+
+pub fn two_slots(a: [u8; 8], b: [u8; 8]) -> [u8; 16] {
+    [
+        a[0],
+        a[1],
+        a[2],
+        a[3],
+        a[4],
+        a[5],
+        a[6],
+        a[7],
+        b[0],
+        b[1],
+        b[2],
+        b[3],
+        b[4],
+        b[5],
+        b[6],
+        b[7],
+    ]
+}
+
+pub fn task(a: Asked) -> [u8; 32] {
+    let i = four(a.id);
+    let w = four(a.w);
+    let e = four(a.e);
+    let d = four(a.d);
+    let h = four(a.h);
+    let m = four(a.m);
+    let k = four(a.k);
+    let f = four(a.first);
+    let c = four(a.count);
+    [
+        i[0],
+        i[1],
+        i[2],
+        i[3],
+        w[0],
+        w[1],
+        w[2],
+        w[3],
+        e[0],
+        e[1],
+        e[2],
+        e[3],
+        d[0],
+        d[1],
+        d[2],
+        d[3],
+        h[0],
+        h[1],
+        h[2],
+        h[3],
+        m[0],
+        m[1],
+        m[2],
+        m[3],
+        k[0],
+        k[1],
+        k[2],
+        k[3],
+        f[0],
+        f[1],
+        c[0],
+        c[1],
+    ]
+}

@@ -1,0 +1,17 @@
+// The cases of document 01 through the public calls, a line for each. The stored output says what must come back.
+mod ask;
+mod bounds;
+mod build;
+mod gifts;
+mod lookups;
+mod print;
+mod refusals;
+mod values;
+
+fn main() {
+    values::all();
+    bounds::all();
+    refusals::all();
+    gifts::all();
+    lookups::all();
+}

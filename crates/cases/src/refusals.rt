@@ -1,0 +1,85 @@
+// Every refusal from 1 to 11, by judging and by counting as far as each knows it.
+use crate::ask;
+use crate::build;
+use crate::build::Asked;
+
+// Both questions about one bad task on one slot (0,8).
+fn both(name: &[u8], a: Asked) {
+    let board = build::slot(0, 8);
+    ask::judge(name, a, &board);
+    ask::count(name, a, &board, 0);
+    ask::supply(name, a, &board, 0);
+}
+
+fn task_sizes() {
+    let short = [0u8; 31];
+    let long = [0u8; 33];
+    ask::judge_bytes(b"31 zeros", &short, b"");
+    ask::judge_bytes(b"33 zeros", &long, b"");
+}
+
+fn slot_sizes() {
+    ask::judge(b"T with 7 bytes of slots", build::t(), b"\0\0\0\0\x08\0\0");
+    ask::count(
+        b"T with 7 bytes of slots",
+        build::t(),
+        b"\0\0\0\0\x08\0\0",
+        0,
+    );
+}
+
+fn reply_size() {
+    let board = build::slot(0, 8);
+    ask::judge_short(b"T, reply of 15 bytes", build::t(), &board);
+}
+
+fn board() {
+    let mut a = build::t();
+    a.first = 1;
+    both(b"T with first 1", a);
+    let mut b = build::t();
+    b.w = 0;
+    b.e = 0;
+    both(b"T with w 0 and e 0", b);
+    let mut c = build::t();
+    c.w = 7;
+    both(b"T with w 7", c);
+}
+
+fn task() {
+    let mut a = build::t();
+    a.e = 0;
+    both(b"T with e 0", a);
+    let mut b = build::t();
+    b.h = 0;
+    both(b"T with h 0", b);
+    let mut c = build::t();
+    c.d = 0;
+    both(b"T with D 0", c);
+}
+
+fn firmness() {
+    let mut a = build::t();
+    a.k = 0;
+    both(b"T with k 0", a);
+    let mut b = build::t();
+    b.m = 3;
+    both(b"T with m 3", b);
+}
+
+fn offset() {
+    let board = build::slot(0, 8);
+    ask::count(b"T", build::t(), &board, 20);
+    ask::count(b"T", build::t(), &board, 18446744073709551615);
+    ask::supply(b"T", build::t(), &board, 20);
+}
+
+pub fn all() {
+    task_sizes();
+    slot_sizes();
+    reply_size();
+    board();
+    task();
+    firmness();
+    offset();
+}

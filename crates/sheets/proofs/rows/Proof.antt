@@ -1,0 +1,72 @@
+-- `sheets::rows` meets its contract. The loop's invariant: the lines of the first i records stand at the start of `out`.
+-- The measure is how many records are left. Assumes nothing.
+use Prim.Native.Nat.{_-_}
+use native.Mathlib.Omega.{arith}
+use Rattle.sheets.proofs.Fills.{Going, going-none, going-more, going-all}
+use Rattle.sheets.proofs.rows.Statement.{statement}
+use Rattle.sheets.proofs.rows.Tie as tie
+
+abbrev Inv-loop : tie.InvT-loop
+Inv-loop tasks slots out₀ n at₀ i₀ out at i = Going tasks slots out₀ out n at i
+
+abbrev μ-loop : tie.MeasureT-loop
+μ-loop tasks slots out₀ n at₀ i₀ out at i = n - i
+
+loop-holds : tie.Need-loop-holds Inv-loop μ-loop
+loop-holds c = going-none _ _ _ _
+
+mul-from : tie.Need-mul-from Inv-loop μ-loop
+mul-from c = omega arith
+
+add-to : tie.Need-add-to Inv-loop μ-loop
+add-to c = omega arith
+
+sub-row : tie.Need-sub-row Inv-loop μ-loop
+sub-row c = omega arith
+
+part-row-start : tie.Need-part-row-start Inv-loop μ-loop
+part-row-start c = omega arith
+
+part-row-end : tie.Need-part-row-end Inv-loop μ-loop
+part-row-end c = omega arith
+
+row-requires : tie.Need-row-requires Inv-loop μ-loop
+row-requires c κs = omega arith
+
+add-i : tie.Need-add-i Inv-loop μ-loop
+add-i c = omega arith
+
+loop-less : tie.Need-loop-less Inv-loop μ-loop
+loop-less c = omega arith
+
+loop-again : tie.Need-loop-again Inv-loop μ-loop
+loop-again c =
+    let here = c .before .before .before .before .before .before in
+    let inside = c .before .before .before .before .before in
+    let put = c .before .before in
+    going-more (here .loop .inv) (inside .loop-test .taken) (put .row .ensures) (put .row .kept .1 .1 .0)
+
+same-length : tie.Need-same-length Inv-loop μ-loop
+same-length c = c .before .loop .inv .same
+
+returns : tie.Need-returns Inv-loop μ-loop
+returns c = going-all (c .before .loop .inv) (omega arith)
+
+pub rows-spec : {M : Type 1} → statement M
+rows-spec =
+    tie.close
+    (tie.spec
+    Inv-loop
+    μ-loop
+    loop-holds
+    mul-from
+    add-to
+    sub-row
+    part-row-start
+    part-row-end
+    row-requires
+    add-i
+    loop-less
+    loop-again
+    same-length
+    returns)
