@@ -7,10 +7,10 @@ use Prim.Native.Nat.{ℕ, _+_, _-_, _*_, _/_, _%_, _≤_, _<_, min}
 use native.Mathlib.Nat.{le-refl, le-antisymm, eq-or-lt-of-le, one-mul, mod-lt}
 use native.Mathlib.Omega.{arith}
 use lib.Dec.{ltb}
-use lib.ListN.{length, getD, set, length-set}
-use lib.Seq.{getD-set-same, getD-set-other}
+use lib.ListN.{length, getD, set, take, length-set}
+use lib.Seq.{getD-set-same, getD-set-other, length-take-le}
 use borrow.Author.Tests.{lt-ltb, le-ltb}
-use Rattle.limits.specs.Limits.{asked}
+use Rattle.limits.specs.Limits.{asked, mostTicks}
 use Rattle.limits.specs.declared.Task.{Task}
 use Rattle.rules.specs.Sums.{Subset, bit}
 use Rattle.rules.specs.Supply.{supply, dropped}
@@ -18,8 +18,8 @@ use Rattle.rules.specs.Worst.{Wheel}
 use Rattle.rules.proofs.Sums.{le-or-lt}
 use Rattle.rules.proofs.Step.{ltb-same}
 use Rattle.ticks.specs.Total.{Upto}
-use Rattle.engine.specs.Late.{Late}
-use Rattle.counts.specs.Counts.{Total, needIn, Filled}
+use Rattle.engine.specs.Late.{Late, Sized}
+use Rattle.counts.specs.Counts.{Total, Within, needIn, Filled}
 use Rattle.counts.proofs.Windows.{supply-le, window-split, rest-inside, rest-over}
 
 -- ---- place by place
@@ -128,3 +128,9 @@ whole-map l m m′ m″ w t turned need total long p q before behind = (
         (le-or-lt (w - r) a);
   },
 )
+
+-- The part of a map that is as long as the wheel is what the engine takes.
+pub part-sized : (m : List ℕ) (w : ℕ) (t : Task) → 0 < w → w ≤ mostTicks → Within t → w ≤ length m → Sized (take w m) (t .h) (t .k)
+part-sized m w t some most within room =
+    let e : length (take w m) ≡ w = length-take-le w m room in
+    record { some = omega arith; most = omega arith; period = within .period; strips = within .strips }

@@ -2,13 +2,14 @@
 ghost use mathlib.Core.Path.{_≡_};
 ghost use Prim.Native.Nat.{_+_, _-_, _≤_, _<_};
 ghost use lib.Dec.{ltb};
-ghost use lib.ListN.{length, getD};
-ghost use Rattle.limits.specs.Limits.{asked};
+ghost use lib.ListN.{length, getD, take};
+ghost use Rattle.limits.specs.Limits.{asked, mostTicks};
 ghost use Rattle.rules.specs.Sums.{Subset, bit};
 ghost use Rattle.rules.specs.Worst.{Wheel};
 ghost use Rattle.ticks.specs.Total.{Upto};
-ghost use Rattle.engine.specs.Late.{Late};
+ghost use Rattle.engine.specs.Late.{Late, Peaks};
 ghost use Rattle.counts.specs.Counts.{Total, Within, needIn, Filled};
+use engine::Peak;
 use limits::Task;
 
 // 1 where x is below the need, else 0.
@@ -70,4 +71,12 @@ pub fn fill(map: &mut [u8], total: &[u16], w: usize, task: Task)
     let split = w - rest;
     before(map, total, rest, split, left);
     behind(map, total, split, w, left);
+}
+
+// Drops to the worst, on the part of a map that is as long as the wheel.
+pub fn worst(map: &[u8], w: usize, task: Task) -> Peak
+    requires { ⌜ (0 < w) × (w ≤ mostTicks) × Within task × (w ≤ length (now map)) ⌝ }
+    ensures { λ r. ⌜ Peaks (take w (now (map .entry))) (task .h) (task .k) (r .drops) (r .offset) ⌝ }
+{
+    engine::worst(&map[..w], task.h, task.k)
 }

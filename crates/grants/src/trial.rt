@@ -1,7 +1,8 @@
 // Whether a number of first free slots is firm: one judgement of the wheel they make.
 ghost use mathlib.Core.Path.{_≡_};
-ghost use Prim.Native.Nat.{_*_, _≤_, _<_};
-ghost use lib.ListN.{length};
+ghost use Prim.Native.Nat.{_-_, _*_, _≤_, _<_};
+ghost use lib.Dec.{leb};
+ghost use lib.ListN.{length, take};
 ghost use Rattle.limits.specs.Limits.{asked, mostTicks};
 ghost use Rattle.counts.specs.Counts.{Within};
 ghost use Rattle.grants.specs.Grants.{FirmSays, Drawn};
@@ -60,33 +61,33 @@ fn drawn(marks: &[u8], v: usize, task: Task, j: usize, map: &mut [u8])
     draw_16384(marks, v, task, j, map);
 }
 
-// Drops to the verdict.
-fn judged(marks: &[u8], v: usize, task: Task, j: usize, map: &mut [u8]) -> bool
-    requires { ⌜ (0 < length (now marks) * v) × (length (now marks) * v ≤ mostTicks) × Within task × (task .m ≤ task .k) ⌝ }
-    requires { ⌜ length (now map) ≡ length (now marks) * v ⌝ }
-    ensures { λ r. ⌜ FirmSays (now (marks .entry)) v (asked task) j r ⌝ }
-{
-    drawn(marks, v, task, j, map);
-    let peak = engine::worst(map, task.h, task.k);
-    (peak.drops as usize) <= task.k - task.m
-}
-
-// The part of the map that is as long as the wheel.
-fn within(marks: &[u8], v: usize, task: Task, j: usize, map: &mut [u8]) -> bool
+// The same on the part of a map that is as long as the wheel.
+fn drawn_in(marks: &[u8], v: usize, task: Task, j: usize, map: &mut [u8])
     requires { ⌜ (0 < length (now marks) * v) × (length (now marks) * v ≤ mostTicks) × Within task × (task .m ≤ task .k) ⌝ }
     requires { ⌜ length (now marks) * v ≤ length (now map) ⌝ }
-    ensures { λ r. ⌜ FirmSays (now (marks .entry)) v (asked task) j r ⌝ }
+    ensures { λ _. ⌜ Drawn (now (marks .entry)) v (asked task) j (take (length (now (marks .entry)) * v) (now (map .exit))) ⌝ }
 {
     let w = marks.len() * v;
-    judged(marks, v, task, j, &mut map[..w])
+    drawn(marks, v, task, j, &mut map[..w]);
 }
 
+// Rule 7's test.
+fn allowed(drops: u32, task: Task) -> bool
+    requires { ⌜ task .m ≤ task .k ⌝ }
+    ensures { λ r. ⌜ r ≡ leb drops (task .k - task .m) ⌝ }
+{
+    (drops as usize) <= task.k - task.m
+}
+
+// The total is gone when the engine's arrays come: drawing has several callers, so that its frame stays its own.
 fn firm_256(marks: &[u8], v: usize, task: Task, j: usize) -> bool
     requires { ⌜ (0 < length (now marks) * v) × (length (now marks) * v ≤ 256) × Within task × (task .m ≤ task .k) ⌝ }
     ensures { λ r. ⌜ FirmSays (now (marks .entry)) v (asked task) j r ⌝ }
 {
     let mut map = [0u8; 256];
-    within(marks, v, task, j, &mut map)
+    drawn_in(marks, v, task, j, &mut map);
+    let peak = counts::late::worst(&map, marks.len() * v, task);
+    allowed(peak.drops, task)
 }
 
 fn firm_2048(marks: &[u8], v: usize, task: Task, j: usize) -> bool
@@ -94,7 +95,9 @@ fn firm_2048(marks: &[u8], v: usize, task: Task, j: usize) -> bool
     ensures { λ r. ⌜ FirmSays (now (marks .entry)) v (asked task) j r ⌝ }
 {
     let mut map = [0u8; 2048];
-    within(marks, v, task, j, &mut map)
+    drawn_in(marks, v, task, j, &mut map);
+    let peak = counts::late::worst(&map, marks.len() * v, task);
+    allowed(peak.drops, task)
 }
 
 fn firm_16384(marks: &[u8], v: usize, task: Task, j: usize) -> bool
@@ -102,7 +105,9 @@ fn firm_16384(marks: &[u8], v: usize, task: Task, j: usize) -> bool
     ensures { λ r. ⌜ FirmSays (now (marks .entry)) v (asked task) j r ⌝ }
 {
     let mut map = [0u8; 16384];
-    within(marks, v, task, j, &mut map)
+    drawn_in(marks, v, task, j, &mut map);
+    let peak = counts::late::worst(&map, marks.len() * v, task);
+    allowed(peak.drops, task)
 }
 
 // Arrays come in a few sizes, so that a small wheel doesn't clear large ones.

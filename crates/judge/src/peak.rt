@@ -2,7 +2,7 @@
 // total is gone before the engine's own arrays come.
 ghost use mathlib.Core.Path.{_≡_};
 ghost use Prim.Native.Nat.{_≤_, _<_};
-ghost use lib.ListN.{length};
+ghost use lib.ListN.{length, take};
 ghost use Rattle.limits.specs.Limits.{asked};
 ghost use Rattle.rules.specs.Worst.{Worst};
 ghost use Rattle.judge.specs.Jobs.{Good, jobTicks, Drawn};
@@ -69,30 +69,23 @@ fn drawn(slots: &[u8], job: Job, map: &mut [u8])
     draw_16384(slots, job, map);
 }
 
-// Drops to the worst, on the part of the map that is as long as the wheel.
-fn solve(slots: &[u8], job: Job, map: &mut [u8]) -> Peak
-    requires { ⌜ Good (now slots) job × (length (now map) ≡ job .w) ⌝ }
-    ensures { λ r. ⌜ Worst (job .w) (jobTicks (now (slots .entry)) job) (asked (job .task)) (r .drops) (r .offset) ⌝ }
-{
-    drawn(slots, job, map);
-    let task = job.task;
-    engine::worst(map, task.h, task.k)
-}
-
-fn within(slots: &[u8], job: Job, map: &mut [u8]) -> Peak
+// The same on the part of a map that is as long as the wheel.
+fn drawn_in(slots: &[u8], job: Job, map: &mut [u8])
     requires { ⌜ Good (now slots) job × (job .w ≤ length (now map)) ⌝ }
-    ensures { λ r. ⌜ Worst (job .w) (jobTicks (now (slots .entry)) job) (asked (job .task)) (r .drops) (r .offset) ⌝ }
+    ensures { λ _. ⌜ Drawn (now (slots .entry)) job (take (job .w) (now (map .exit))) ⌝ }
 {
     let w = job.w;
-    solve(slots, job, &mut map[..w])
+    drawn(slots, job, &mut map[..w]);
 }
 
+// The total is gone when the engine's arrays come: drawing has several callers, so that its frame stays its own.
 fn peak_256(slots: &[u8], job: Job) -> Peak
     requires { ⌜ Good (now slots) job × (job .w ≤ 256) ⌝ }
     ensures { λ r. ⌜ Worst (job .w) (jobTicks (now (slots .entry)) job) (asked (job .task)) (r .drops) (r .offset) ⌝ }
 {
     let mut map = [0u8; 256];
-    within(slots, job, &mut map)
+    drawn_in(slots, job, &mut map);
+    counts::late::worst(&map, job.w, job.task)
 }
 
 fn peak_2048(slots: &[u8], job: Job) -> Peak
@@ -100,7 +93,8 @@ fn peak_2048(slots: &[u8], job: Job) -> Peak
     ensures { λ r. ⌜ Worst (job .w) (jobTicks (now (slots .entry)) job) (asked (job .task)) (r .drops) (r .offset) ⌝ }
 {
     let mut map = [0u8; 2048];
-    within(slots, job, &mut map)
+    drawn_in(slots, job, &mut map);
+    counts::late::worst(&map, job.w, job.task)
 }
 
 fn peak_4096(slots: &[u8], job: Job) -> Peak
@@ -108,7 +102,8 @@ fn peak_4096(slots: &[u8], job: Job) -> Peak
     ensures { λ r. ⌜ Worst (job .w) (jobTicks (now (slots .entry)) job) (asked (job .task)) (r .drops) (r .offset) ⌝ }
 {
     let mut map = [0u8; 4096];
-    within(slots, job, &mut map)
+    drawn_in(slots, job, &mut map);
+    counts::late::worst(&map, job.w, job.task)
 }
 
 fn peak_16384(slots: &[u8], job: Job) -> Peak
@@ -116,7 +111,8 @@ fn peak_16384(slots: &[u8], job: Job) -> Peak
     ensures { λ r. ⌜ Worst (job .w) (jobTicks (now (slots .entry)) job) (asked (job .task)) (r .drops) (r .offset) ⌝ }
 {
     let mut map = [0u8; 16384];
-    within(slots, job, &mut map)
+    drawn_in(slots, job, &mut map);
+    counts::late::worst(&map, job.w, job.task)
 }
 
 pub fn peak(slots: &[u8], job: Job) -> Peak
