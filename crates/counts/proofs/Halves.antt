@@ -1,17 +1,13 @@
 -- Supply, drop and count at half ticks of the wheel. Assumes nothing.
-use mathlib.Core.Path.{_≡_, refl, sym, ap, ap₂, _∙_}
-use mathlib.Core.Bool.{Bool, true, false}
+use mathlib.Core.Path.{_≡_, sym, ap, _∙_}
 use mathlib.Core.List.{List}
-use Prim.Native.Nat.{ℕ, zero, suc, _+_, _-_, _*_, _/_, _%_, _≤_, _<_}
-use native.Mathlib.Nat.{add-zero, one-mul, zero-mul, mul-comm, mul-le-mul, div-add-mod, mod-lt, le-refl, le-antisymm}
-use native.Mathlib.Numerals.{add-one}
+use Prim.Native.Nat.{ℕ, _+_, _*_, _/_, _%_, _≤_, _<_}
+use native.Mathlib.Nat.{mul-comm, mul-le-mul, div-add-mod, le-antisymm}
 use native.Mathlib.Omega.{arith}
-use lib.Dec.{ltb}
-use lib.ListN.{length, getD}
 use borrow.Author.Tests.{lt-ltb, le-ltb}
 use Rattle.limits.specs.Limits.{asked, mostPeriod, mostStrips}
 use Rattle.limits.specs.declared.Task.{Task}
-use Rattle.rules.specs.Sums.{Subset, bit, number}
+use Rattle.rules.specs.Sums.{Subset, bit}
 use Rattle.rules.specs.Supply as rules
 use Rattle.rules.specs.Supply.{supply, dropped, drops}
 use Rattle.rules.specs.Worst.{Wheel}
@@ -19,7 +15,6 @@ use Rattle.rules.proofs.Sums.{number-none, number-more}
 use Rattle.rules.proofs.Straight.{straight, supply-tick}
 use Rattle.rules.proofs.Step.{supply-turns, dropped-mod}
 use Rattle.ticks.specs.Total.{Upto}
-use Rattle.counts.specs.Counts.{Total, Within}
 
 -- ---- supply
 

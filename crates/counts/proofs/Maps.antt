@@ -1,10 +1,9 @@
 -- The map of drops: filling it place by place, the need that is left after whole turns, and what the filled map says. Assumes nothing.
-use mathlib.Core.Path.{_≡_, refl, sym, ap, ap₂, _∙_}
+use mathlib.Core.Path.{_≡_, refl, sym, ap, _∙_}
 use mathlib.Core.Logic.{⊎-elim}
-use mathlib.Core.Bool.{Bool, true, false}
 use mathlib.Core.List.{List}
 use Prim.Native.Nat.{ℕ, _+_, _-_, _*_, _/_, _%_, _≤_, _<_, min}
-use native.Mathlib.Nat.{le-refl, le-antisymm, eq-or-lt-of-le, one-mul, mod-lt}
+use native.Mathlib.Nat.{le-antisymm, eq-or-lt-of-le, one-mul, mod-lt}
 use native.Mathlib.Omega.{arith}
 use lib.Dec.{ltb}
 use lib.ListN.{length, getD, set, take, length-set}

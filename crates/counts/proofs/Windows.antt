@@ -1,10 +1,10 @@
 -- Windows from the running total: whole turns, and a rest that may run over the wheel's end. Assumes nothing.
-use mathlib.Core.Path.{_≡_, refl, sym, ap, _∙_}
+use mathlib.Core.Path.{_≡_, sym, ap, _∙_}
 use mathlib.Core.List.{List}
 use Prim.Native.Nat.{ℕ, _+_, _-_, _*_, _/_, _%_, _≤_, _<_}
 use native.Mathlib.Nat.{mul-comm, mul-le-mul-left, div-mul-le-self, div-add-mod, le-refl, le-trans}
 use native.Mathlib.Omega.{arith}
-use lib.ListN.{length, getD}
+use lib.ListN.{getD}
 use Rattle.rules.specs.Sums.{Subset, number}
 use Rattle.rules.specs.Supply.{supply}
 use Rattle.rules.specs.Worst.{Wheel}

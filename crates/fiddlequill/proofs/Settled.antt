@@ -3,23 +3,20 @@ use mathlib.Core.Path.{_≡_, refl, sym, ap, ap₂, _∙_}
 use mathlib.Core.Logic.{_⊎_, _↔_, inl, inr, ⊎-elim}
 use mathlib.Core.Bool.{Bool, true, false}
 use mathlib.Core.List.{List}
-use Prim.Native.Nat.{ℕ, zero, suc, _≤_, _<_}
+use Prim.Native.Nat.{ℕ, zero, suc, _<_}
 use native.Mathlib.Decide.{ℕ-discrete}
 use native.Mathlib.Omega.{arith}
-use lib.ListN.{length, getD}
+use lib.ListN.{length}
 use lib.Seq.{ext-getD}
 use Rattle.octets.specs.Octets.{over}
 use Rattle.rules.specs.Sums.{bit}
-use Rattle.rules.specs.Worst.{Worst, Firm}
-use Rattle.rules.specs.Grant.{Granted, NoChoice}
 use Rattle.rules.proofs.Worst.{worst-unique}
 use Rattle.rules.proofs.Grants.{grant-unique}
-use Rattle.records.specs.Records.{taskRecord, ticksOf, askedOf, answerBytes}
-use Rattle.ticks.specs.Total.{freeOf}
+use Rattle.records.specs.Records.{taskRecord, answerBytes}
 use Rattle.judge.specs.Judge.{Judged, Answered}
 use Rattle.judge.specs.Points.{suppliedAt, droppedAt, countedAt}
-use Rattle.grants.specs.Grants.{GrantCall, Marked, grantRefusal, askedFor}
-use Rattle.fiddlequill.specs.Packed.{packed, PackedGrant}
+use Rattle.grants.specs.Grants.{GrantCall, Marked, grantRefusal}
+use Rattle.fiddlequill.specs.Packed.{packed}
 use Rattle.fiddlequill.specs.Settled.{JudgeSettled, PointSettled, PointsSettled, CountSettled, GrantSettled, PackedSettled, LookupSettled}
 
 -- ---- judging

@@ -1,7 +1,6 @@
 -- Document 01, "What the statements have to settle": any two results that a public contract allows are equal, with every lent buffer at exit.
 -- Definitions only: a statement for each public function; proofs/Settled.antt shows them.
 use mathlib.Core.Path.{_≡_}
-use mathlib.Core.Bool.{Bool}
 use mathlib.Core.List.{List}
 use Prim.Native.Nat.{ℕ}
 use Rattle.records.specs.Refusals.{pointRefusal}

@@ -1,26 +1,25 @@
 -- The refusals of a grant, and each way out of a whole call. Assumes nothing.
-use mathlib.Core.Path.{_≡_, refl, sym, ap, _∙_}
-use mathlib.Core.Logic.{_⊎_, inl, inr, ⊎-elim}
-use mathlib.Core.Bool.{Bool, true, false, _||_}
+use mathlib.Core.Path.{_≡_, refl, _∙_}
+use mathlib.Core.Logic.{inl, inr}
+use mathlib.Core.Bool.{Bool, true, false}
 use mathlib.Core.List.{List}
 use Prim.Native.Nat.{ℕ, zero, suc, _*_, _≤_, _<_}
 use native.Mathlib.Nat.{zero-lt-suc, mul-pos}
 use native.Mathlib.Omega.{arith}
-use lib.Dec.{eqb, ltb, lit≤}
-use lib.ListN.{length, getD}
+use lib.Dec.{lit≤}
+use lib.ListN.{length}
 use borrow.Author.Tests.{ltb-false, eqb-false}
-use Rattle.rules.specs.Sums.{any}
 use Rattle.rules.specs.Grant.{Granted, NoChoice}
 use Rattle.limits.specs.Refusal.{_when_, _otherwise_, ifNone}
-use Rattle.limits.specs.Limits.{gridRefusal, taskRefusal, taskRefusalOf, madeTask, madeGrid, taskNumber, gridNumber, outside, mostGranted, mostTicks, asked}
+use Rattle.limits.specs.Limits.{gridRefusal, taskRefusal, taskRefusalOf, madeTask, madeGrid, taskNumber, gridNumber, mostGranted, mostTicks, asked}
 use Rattle.limits.specs.declared.Task.{Task}
 use Rattle.limits.specs.declared.Grid.{Grid}
 use Rattle.limits.specs.declared.TaskMade.the-variants as taskMade
 use Rattle.limits.specs.declared.GridMade.the-variants as gridMade
-use Rattle.limits.proofs.Refusals.{both-none, when-none, when-true, when-false, or-false, inside, at-first, at-next}
+use Rattle.limits.proofs.Refusals.{both-none, when-none, when-true, when-false, or-false, inside}
 use Rattle.counts.proofs.Tasks.{Accepted, accepted}
 use Rattle.ticks.specs.Total.{freeOf}
-use Rattle.grants.specs.Grants.{badMark, grantRefusal, askedFor, Marked, GrantCall}
+use Rattle.grants.specs.Grants.{badMark, grantRefusal, Marked, GrantCall}
 
 -- ---- what a constructor answers has the number of its refusal
 

@@ -1,23 +1,22 @@
 -- The search by halves: more slots never hurt, so what isn't firm rules out every smaller number. Assumes nothing.
-use mathlib.Core.Path.{_≡_, refl, sym, ap, _∙_}
+use mathlib.Core.Path.{_≡_, ap, _∙_}
 use mathlib.Core.Bool.{Bool, true, false, _&&_, and-false}
 use mathlib.Core.List.{List}
-use Prim.Native.Nat.{ℕ, zero, suc, _+_, _-_, _*_, _/_, _%_, _≤_, _<_}
-use native.Mathlib.Nat.{le-trans, mul-one, mul-zero, mul-pos}
+use Prim.Native.Nat.{ℕ, _+_, _*_, _/_, _%_, _≤_, _<_}
+use native.Mathlib.Nat.{le-trans, mul-one, mul-zero}
 use native.Mathlib.Omega.{arith}
-use lib.Dec.{ltb}
 use lib.ListN.{length}
 use borrow.Author.Tests.{lt-ltb, le-ltb}
-use Rattle.rules.specs.Sums.{Subset, bit, any, number}
+use Rattle.rules.specs.Sums.{Subset, bit, number}
 use Rattle.rules.specs.Supply.{Task, supply, dropped, drops, count}
 use Rattle.rules.specs.Usable.{usable, grid, covers}
 use Rattle.rules.specs.Worst.{Firm}
 use Rattle.rules.specs.Grant.{first, gridTicks, Granted, NoChoice}
-use Rattle.rules.proofs.Sums.{any-none, number-const, number-le, le-or-lt}
+use Rattle.rules.proofs.Sums.{any-none, number-const, number-le}
 use Rattle.rules.proofs.More.{firm-mono}
 use Rattle.rules.proofs.Grants.{grid-mono, first-mono, no-choice}
 use Rattle.ticks.specs.Total.{freeOf}
-use Rattle.grants.specs.Grants.{FirmSays, Halving}
+use Rattle.grants.specs.Grants.{Halving}
 
 module _ (l : List ℕ) (v : ℕ) (t : Task) where
   abbrev FirmAt : ℕ → Type 0

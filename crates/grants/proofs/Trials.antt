@@ -1,13 +1,13 @@
 -- One judgement of the wheel that a number of first free slots makes. Assumes nothing.
-use mathlib.Core.Path.{_≡_, refl, sym, ap, subst, _∙_}
-use mathlib.Core.Bool.{Bool, true, false}
+use mathlib.Core.Path.{_≡_, refl, sym, subst, _∙_}
+use mathlib.Core.Bool.{true, false}
 use mathlib.Core.List.{List}
 use Prim.Native.Nat.{ℕ, _-_, _*_, _≤_, _<_}
 use native.Mathlib.Omega.{arith}
 use lib.Dec.{leb}
 use lib.ListN.{length}
 use Rattle.rules.specs.Sums.{Subset}
-use Rattle.rules.specs.Worst.{Wheel, Worst, Firm, firmTest}
+use Rattle.rules.specs.Worst.{Wheel, Worst, firmTest}
 use Rattle.rules.specs.Grant.{first, gridTicks}
 use Rattle.rules.proofs.Worst.{firm-agrees}
 use Rattle.rules.proofs.Grants.{grid-turns}

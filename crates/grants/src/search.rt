@@ -1,5 +1,4 @@
 // The smallest number of first free slots that is firm, by halves: more slots never hurt.
-ghost use mathlib.Core.Path.{_≡_};
 ghost use Prim.Native.Nat.{_*_, _≤_, _<_};
 ghost use lib.ListN.{length};
 ghost use Rattle.limits.specs.Limits.{asked, mostTicks};

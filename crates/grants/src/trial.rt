@@ -36,6 +36,15 @@ fn draw_2048(marks: &[u8], v: usize, task: Task, j: usize, map: &mut [u8])
     draw(marks, v, task, j, map, &mut total);
 }
 
+fn draw_4096(marks: &[u8], v: usize, task: Task, j: usize, map: &mut [u8])
+    requires { ⌜ (0 < length (now marks) * v) × (length (now marks) * v ≤ 4096) × Within task × (task .m ≤ task .k) ⌝ }
+    requires { ⌜ length (now map) ≡ length (now marks) * v ⌝ }
+    ensures { λ _. ⌜ Drawn (now (marks .entry)) v (asked task) j (now (map .exit)) ⌝ }
+{
+    let mut total = [0u16; 4097];
+    draw(marks, v, task, j, map, &mut total);
+}
+
 fn draw_16384(marks: &[u8], v: usize, task: Task, j: usize, map: &mut [u8])
     requires { ⌜ (0 < length (now marks) * v) × (length (now marks) * v ≤ mostTicks) × Within task × (task .m ≤ task .k) ⌝ }
     requires { ⌜ length (now map) ≡ length (now marks) * v ⌝ }
@@ -57,6 +66,9 @@ fn drawn(marks: &[u8], v: usize, task: Task, j: usize, map: &mut [u8])
     }
     if w <= 2048 {
         return draw_2048(marks, v, task, j, map);
+    }
+    if w <= 4096 {
+        return draw_4096(marks, v, task, j, map);
     }
     draw_16384(marks, v, task, j, map);
 }
@@ -100,6 +112,16 @@ fn firm_2048(marks: &[u8], v: usize, task: Task, j: usize) -> bool
     allowed(peak.drops, task)
 }
 
+fn firm_4096(marks: &[u8], v: usize, task: Task, j: usize) -> bool
+    requires { ⌜ (0 < length (now marks) * v) × (length (now marks) * v ≤ 4096) × Within task × (task .m ≤ task .k) ⌝ }
+    ensures { λ r. ⌜ FirmSays (now (marks .entry)) v (asked task) j r ⌝ }
+{
+    let mut map = [0u8; 4096];
+    drawn_in(marks, v, task, j, &mut map);
+    let peak = counts::late::worst(&map, marks.len() * v, task);
+    allowed(peak.drops, task)
+}
+
 fn firm_16384(marks: &[u8], v: usize, task: Task, j: usize) -> bool
     requires { ⌜ (0 < length (now marks) * v) × (length (now marks) * v ≤ mostTicks) × Within task × (task .m ≤ task .k) ⌝ }
     ensures { λ r. ⌜ FirmSays (now (marks .entry)) v (asked task) j r ⌝ }
@@ -121,6 +143,9 @@ pub fn firm(marks: &[u8], v: usize, task: Task, j: usize) -> bool
     }
     if w <= 2048 {
         return firm_2048(marks, v, task, j);
+    }
+    if w <= 4096 {
+        return firm_4096(marks, v, task, j);
     }
     firm_16384(marks, v, task, j)
 }

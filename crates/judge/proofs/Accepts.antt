@@ -1,20 +1,17 @@
 -- What the refusals rule out: a record with none is a good job, and every refusal of its body is 3 or more. Assumes nothing.
-use mathlib.Core.Path.{_≡_, refl, sym, ap, _∙_}
+use mathlib.Core.Path.{_≡_, refl, _∙_}
 use mathlib.Core.Logic.{_⊎_, inl, inr, ⊎-elim}
 use mathlib.Core.Bool.{Bool, true, false}
 use mathlib.Core.List.{List}
-use Prim.Native.Nat.{ℕ, zero, suc, _+_, _/_, _≤_, _<_}
+use Prim.Native.Nat.{ℕ, zero, suc, _<_}
 use native.Mathlib.Nat.{zero-lt-suc}
-use native.Mathlib.Omega.{arith}
 use lib.Dec.{lit<}
-use lib.ListN.{length}
 use borrow.Author.Tests.{ltb-false}
 use Rattle.rules.specs.Usable.{Slot}
 use Rattle.limits.specs.Refusal.{_when_, _otherwise_}
 use Rattle.limits.specs.Limits.{wheelRefusal, taskRefusal, taskRefusalOf, mostTicks}
 use Rattle.limits.proofs.Refusals.{both-none, when-none, when-true, when-false, inside}
-use Rattle.records.specs.Records.{slotBytes, slotAt}
-use Rattle.records.specs.Refusals.{range, slotRefusal, endBefore, firstBad, slotsRefusal, boardRefusal, bodyRefusal, jobOf}
+use Rattle.records.specs.Refusals.{range, slotRefusal, firstBad, slotsRefusal, boardRefusal, bodyRefusal, jobOf}
 use Rattle.records.specs.declared.TaskRecord.{TaskRecord}
 use Rattle.counts.proofs.Tasks.{accepted}
 use Rattle.judge.specs.Jobs.{Good}

@@ -16,7 +16,7 @@ use Rattle.rules.proofs.Total.{slots-turn}
 use Rattle.limits.specs.Refusal.{ifNone}
 use Rattle.limits.specs.Limits.{asked}
 use Rattle.limits.proofs.Refusals.{at-first, at-next, none-left, none-right, when-true, when-false, when-none, both-none}
-use Rattle.records.specs.Records.{taskRecord, boardOf, ticksOf, askedOf}
+use Rattle.records.specs.Records.{taskRecord, boardOf, ticksOf}
 use Rattle.records.specs.Refusals.{sizes, bodyRefusal, beyond, pointRefusal, jobOf, checked}
 use Rattle.records.specs.declared.TaskRecord.{TaskRecord}
 use Rattle.records.specs.declared.Job.{Job}

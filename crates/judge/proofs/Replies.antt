@@ -20,7 +20,7 @@ use Rattle.records.specs.declared.Job.{Job}
 use Rattle.records.specs.declared.Checked.the-variants.{Accepted, Refused}
 use Rattle.records.proofs.Parts.{sizes-one, checked-accepted, checked-refused}
 use Rattle.judge.specs.Jobs.{Good, jobTicks}
-use Rattle.judge.specs.Judge.{Judged, Answered}
+use Rattle.judge.specs.Judge.{Judged}
 use Rattle.judge.proofs.Accepts.{good-job, body-high}
 
 -- ---- rule 7's bit

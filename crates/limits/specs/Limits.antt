@@ -12,7 +12,6 @@ use Prim.Native.Nat.{ℕ, _*_}
 use lib.Dec.{ltb, eqb}
 use Rattle.rules.specs.Supply as rules
 use Rattle.limits.specs.Refusal.{_when_, _otherwise_, ifNone}
-use Rattle.limits.specs.declared.Wheel.{Wheel}
 use Rattle.limits.specs.declared.Task.{Task}
 use Rattle.limits.specs.declared.Grid.{Grid}
 use Rattle.limits.specs.declared.WheelMade.{WheelMade}

@@ -1,11 +1,11 @@
 -- A copy over the start of a list, byte by byte. Assumes nothing.
-use mathlib.Core.Path.{_≡_, refl, sym, ap, _∙_}
+use mathlib.Core.Path.{_≡_, sym, ap, _∙_}
 use mathlib.Core.List.{List, _++_}
 use Prim.Native.Nat.{ℕ, _+_, _≤_, _<_}
 use native.Mathlib.Nat.{zero-add, le-antisymm}
 use native.Mathlib.Numerals.{add-one}
 use native.Mathlib.Omega.{arith}
-use lib.ListN.{length, getD, set, drop, take}
+use lib.ListN.{length, getD, set, drop}
 use lib.Seq.{paste, paste-zero, paste-suc, length-paste, take-length}
 use Rattle.octets.specs.Octets.{over}
 

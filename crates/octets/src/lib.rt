@@ -1,7 +1,7 @@
 // Unsigned numbers in bytes, lowest byte first, and bytes put over the start of a buffer.
 ghost use mathlib.Core.Path.{_≡_};
 ghost use Prim.Native.Nat.{_+_, _≤_, _<_};
-ghost use lib.ListN.{length, getD};
+ghost use lib.ListN.{length};
 ghost use Rattle.octets.specs.Octets.{le2, le4, over};
 
 // A byte as a number. Its bound is stated here once, so that no sum of bytes has to show it again.

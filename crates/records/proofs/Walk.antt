@@ -5,7 +5,6 @@ use native.Mathlib.Nat.{add-zero, add-suc, le-antisymm}
 use native.Mathlib.Numerals.{add-one}
 use native.Mathlib.Omega.{arith}
 use Rattle.rules.specs.Usable.{Slot}
-use Rattle.limits.specs.Refusal.{_otherwise_}
 use Rattle.limits.proofs.Refusals.{otherwise-none, otherwise-some}
 use Rattle.records.specs.Refusals.{slotRefusal, endBefore, firstBad}
 

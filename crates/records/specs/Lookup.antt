@@ -6,7 +6,7 @@
 --     part l i              the 32 bytes of record i
 --     found l id            the first record of l with that id, or nothing
 --     lookedUp s f id       from the site file if it has the id, else from the factory file, else nothing
-use mathlib.Core.Bool.{Bool, true, false, cond}
+use mathlib.Core.Bool.{cond}
 use mathlib.Core.List.{List, []}
 use Prim.Native.Nat.{ℕ, zero, suc, _+_, _*_, _/_}
 use lib.Dec.{eqb, ltb}

@@ -10,7 +10,7 @@
 --     checked r l                what an accepted task record is turned into, or its refusal
 --
 -- The part's first slot has nothing before it: the record in front of `first` isn't the previous slot.
-use mathlib.Core.Bool.{Bool, not, _||_}
+use mathlib.Core.Bool.{not, _||_}
 use mathlib.Core.List.{List}
 use Prim.Native.Nat.{ℕ, zero, suc, _+_, _*_, _/_, _%_}
 use lib.Dec.{leb, ltb, eqb}

@@ -5,7 +5,7 @@ ghost use lib.ListN.{length};
 ghost use Rattle.limits.specs.Refusal.{_when_};
 ghost use Rattle.limits.specs.Limits.{wheelRefusal};
 ghost use Rattle.records.specs.Records.{slotBytes, slotOf, slotAt};
-ghost use Rattle.records.specs.Refusals.{slotRefusal, firstBad, slotsRefusal, boardRefusal};
+ghost use Rattle.records.specs.Refusals.{slotRefusal, firstBad, boardRefusal};
 ghost use lib.Dec.{ltb};
 use crate::Slot;
 use crate::TaskRecord;

@@ -4,7 +4,6 @@
 -- fractions. The checker then runs the tests of the whole list at once.
 -- In order: tests one after the other; counts by a table of drops; firm by half ticks; worst by half ticks; a test for each kind; the list. Assumes nothing.
 use mathlib.Core.Path.{_≡_, refl, sym, ap, _∙_}
-use mathlib.Core.Logic.{_⊎_, inl, inr, ⊎-elim}
 use mathlib.Core.Bool.{Bool, true, false, not, _&&_, Bool·beq}
 use mathlib.Core.List.{List, [], _∷_}
 use Prim.Native.Nat.{ℕ, zero, suc, _+_, _-_, _*_, _%_, _<_}
@@ -15,9 +14,9 @@ use borrow.Author.Tests.{leb-true, ltb-true, eqb-true, le-leb, not-true}
 use lib.Dec.{leb, ltb, eqb}
 use Rattle.rules.specs.Sums.{Subset, bit, sum, number, any}
 use Rattle.rules.specs.Supply.{Task, supply, dropped, drops, count}
-use Rattle.rules.specs.Usable.{Slot, Table, covers, usable, tableOf, grid}
+use Rattle.rules.specs.Usable.{covers, usable, tableOf, grid}
 use Rattle.rules.specs.Worst.{Wheel, Worst, Firm, firmTest}
-use Rattle.rules.specs.Grant.{first, gridTicks, Granted, NoChoice}
+use Rattle.rules.specs.Grant.{first, gridTicks}
 use Rattle.rules.specs.Laws.{halfTick}
 use Rattle.rules.specs.Cases.{Case, from, worst, verdict, grant, refusal13, Holds, Each, cases, CasesHold}
 use Rattle.rules.proofs.Sums.{number-cong, and-left, and-right, all, all-at, all-intro}

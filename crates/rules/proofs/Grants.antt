@@ -5,16 +5,14 @@
 -- In order: deciding firm; the smallest number that passes; more slots, more ticks; the grant. Assumes nothing.
 use mathlib.Core.Path.{_≡_, refl, sym, ap, _∙_}
 use mathlib.Core.Logic.{_⊎_, inl, inr, ⊎-elim}
-use mathlib.Core.Bool.{Bool, true, false, _&&_}
-use Prim.Native.Nat.{ℕ, zero, suc, _+_, _*_, _%_, _≤_, _<_}
+use mathlib.Core.Bool.{Bool, true, false}
+use Prim.Native.Nat.{ℕ, zero, suc, _+_, _*_, _≤_, _<_}
 use native.Mathlib.Nat.{le-refl, le-step, le-antisymm, not-suc-le-zero, le-of-suc-le-suc, eq-or-lt-of-le}
-use native.Mathlib.Numerals.{add-one}
 use native.Mathlib.Omega.{arith}
 use borrow.Author.Tests.{ltb-true, lt-ltb}
-use lib.Dec.{ltb}
-use Rattle.rules.specs.Sums.{Subset, bit, number, any}
+use Rattle.rules.specs.Sums.{Subset, bit, number}
 use Rattle.rules.specs.Supply.{Task}
-use Rattle.rules.specs.Usable.{usable, grid, covers}
+use Rattle.rules.specs.Usable.{usable, grid}
 use Rattle.rules.specs.Worst.{Wheel, Worst, Firm, firmTest}
 use Rattle.rules.specs.Grant.{first, gridTicks, Granted, NoChoice}
 use Rattle.rules.specs.Laws.{GrantExists, GrantUnique}

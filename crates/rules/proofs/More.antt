@@ -4,11 +4,11 @@
 -- Assumes nothing.
 use mathlib.Core.Path.{_≡_, sym, ap, _∙_}
 use mathlib.Core.Bool.{true}
-use Prim.Native.Nat.{ℕ, _+_, _*_, _/_, _≤_, _<_}
+use Prim.Native.Nat.{ℕ, _+_, _*_, _/_, _≤_}
 use native.Mathlib.Nat.{mul-le-mul-left, le-of-eq, le-trans}
 use native.Mathlib.Omega.{arith}
 use borrow.Author.Tests.{ltb-true, lt-ltb}
-use Rattle.rules.specs.Sums.{Subset, number}
+use Rattle.rules.specs.Sums.{Subset}
 use Rattle.rules.specs.Supply.{Task, supply, dropped, drops, count}
 use Rattle.rules.specs.Worst.{Firm}
 use Rattle.rules.specs.Laws.{NoHarder, MoreNeverHurts}

@@ -5,13 +5,11 @@
 -- In order: tests; a drop between ticks, and at a tick; the half tick for p/q; whole turns; the step; counts in two parts.
 -- Not here: the worst count. Assumes nothing.
 use mathlib.Core.Path.{_≡_, refl, sym, ap, _∙_}
-use mathlib.Core.Logic.{⊎-elim}
 use mathlib.Core.Bool.{Bool, true, false, _||_}
 use Prim.Native.Nat.{ℕ, zero, suc, _+_, _-_, _*_, _/_, _%_, _≤_, _<_}
 use native.Mathlib.Nat.{add-zero, add-assoc, zero-mul, suc-mul, mul-add, add-mul, one-mul, mul-one, mul-comm, mul-assoc, mul-left-comm}
-use native.Mathlib.Nat.{mul-le-mul-left, mul-lt-mul-of-pos-left, lt-of-mul-lt-mul-left, mod-lt, div-add-mod, eq-zero-or-pos}
+use native.Mathlib.Nat.{mul-le-mul-left, mul-lt-mul-of-pos-left, lt-of-mul-lt-mul-left, mod-lt, div-add-mod}
 use native.Mathlib.Nat.{add-mul-div-left, add-mul-mod-self-left}
-use native.Mathlib.Numerals.{add-one}
 use native.Mathlib.Omega.{arith}
 use lib.Dec.{ltb}
 use borrow.Author.Tests.{ltb-true, ltb-false, lt-ltb, le-ltb}
@@ -19,7 +17,7 @@ use Rattle.rules.specs.Sums.{Subset, bit, number}
 use Rattle.rules.specs.Supply.{Task, supply, dropped, drops, count}
 use Rattle.rules.specs.Worst.{Wheel}
 use Rattle.rules.specs.Laws.{halfTick, StepOverQ, CountsAdd}
-use Rattle.rules.proofs.Sums.{number-cong, number-split, bit-le}
+use Rattle.rules.proofs.Sums.{number-cong, number-split}
 use Rattle.rules.proofs.Straight.{straight, supply-tick, supply-up, supply-down}
 
 -- ---- tests

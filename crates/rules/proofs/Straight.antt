@@ -2,10 +2,9 @@
 --
 -- In order: supply in ticks; supply between ticks is a straight line; neighbours differ by one tick at most. Not here: drops.
 -- Assumes nothing.
-use mathlib.Core.Path.{_≡_, refl, sym, ap, _∙_}
-use mathlib.Core.Bool.{Bool}
+use mathlib.Core.Path.{_≡_, sym, ap, _∙_}
 use Prim.Native.Nat.{ℕ, zero, suc, _+_, _*_, _/_, _≤_, _<_}
-use native.Mathlib.Nat.{add-zero, add-suc, add-assoc, zero-mul, mul-zero, mul-suc, mul-add, one-mul, div-one, div-eq-of-lt, mul-add-div}
+use native.Mathlib.Nat.{add-zero, add-assoc, zero-mul, mul-zero, mul-suc, mul-add, one-mul, div-one, div-eq-of-lt, mul-add-div}
 use native.Mathlib.Numerals.{add-one}
 use native.Mathlib.Omega.{arith}
 use Rattle.rules.specs.Sums.{Subset, bit, number}

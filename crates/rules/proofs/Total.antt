@@ -2,15 +2,15 @@
 --
 -- A window of one whole turn holds the same wherever it starts, since it loses and gains the same tick as it moves on.
 -- Assumes nothing.
-use mathlib.Core.Path.{_≡_, refl, sym, ap, _∙_}
+use mathlib.Core.Path.{_≡_, ap}
 use mathlib.Core.Bool.{_&&_}
-use Prim.Native.Nat.{ℕ, zero, suc, _+_, _*_, _%_, _<_}
-use native.Mathlib.Nat.{add-zero, add-assoc, zero-mul, suc-mul, add-mod-right}
+use Prim.Native.Nat.{ℕ, zero, suc, _+_, _*_}
+use native.Mathlib.Nat.{add-zero, zero-mul, suc-mul, add-mod-right}
 use native.Mathlib.Numerals.{add-one}
 use native.Mathlib.Omega.{arith}
 use Rattle.rules.specs.Sums.{Subset, bit, number, any}
 use Rattle.rules.specs.Supply.{supply}
-use Rattle.rules.specs.Usable.{Table, covers, usable}
+use Rattle.rules.specs.Usable.{covers, usable}
 use Rattle.rules.specs.Worst.{Wheel}
 use Rattle.rules.specs.Laws.{WholeTurns, SlotsTurn}
 use Rattle.rules.proofs.Sums.{number-none}

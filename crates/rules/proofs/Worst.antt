@@ -4,8 +4,6 @@
 -- In order: from half ticks to Worst; it exists; it is unique; firm. Not here: where it lies (Zones).
 -- Assumes nothing.
 use mathlib.Core.Path.{_≡_, sym, _∙_}
-use mathlib.Core.Logic.{_↔_}
-use mathlib.Core.Bool.{true}
 use Prim.Native.Nat.{ℕ, suc, _-_, _*_, _%_, _≤_, _<_}
 use native.Mathlib.Nat.{mod-lt, le-antisymm}
 use native.Mathlib.Omega.{arith}

@@ -4,19 +4,19 @@
 -- odd one before it. An odd half tick is worse than the even one before it only where some strip meets a zone start.
 -- In order: drops beside a tick; going back on the wheel; the worst place; where no zone starts. Assumes nothing.
 use mathlib.Core.Path.{_≡_, refl, sym, ap, subst, _∙_}
-use mathlib.Core.Logic.{_⊎_, inl, inr, ⊎-elim}
-use mathlib.Core.Bool.{Bool, true, false, not, _||_, _&&_}
+use mathlib.Core.Logic.{_⊎_, inl, inr}
+use mathlib.Core.Bool.{Bool, true, false, not, _&&_}
 use Prim.Native.Nat.{ℕ, zero, suc, _+_, _-_, _*_, _/_, _%_, _≤_, _<_}
-use native.Mathlib.Nat.{add-assoc, mul-assoc, mul-left-comm, mul-comm, mod-lt, mod-eq-of-lt, div-add-mod, mod-add-mod}
+use native.Mathlib.Nat.{mul-left-comm, mul-comm, mod-lt, mod-eq-of-lt, div-add-mod, mod-add-mod}
 use native.Mathlib.Nat.{add-zero, mul-add, mul-one, add-mul-mod-self-left}
 use borrow.Author.Tests.{not-true}
 use native.Mathlib.Omega.{arith}
-use Rattle.rules.specs.Sums.{Subset, bit, number}
+use Rattle.rules.specs.Sums.{Subset}
 use Rattle.rules.specs.Supply.{Task, dropped, drops, count}
 use Rattle.rules.specs.Worst.{Wheel, Worst}
 use Rattle.rules.specs.Zone.{ZoneStart, Candidate, back}
 use Rattle.rules.specs.Laws.{halfTick, WorstPlace, NoZones, Alike}
-use Rattle.rules.proofs.Sums.{number-cong, number-mono, or-left, or-right, and-left, and-right, and-both, found-or-none, Found}
+use Rattle.rules.proofs.Sums.{number-cong, number-mono, or-left, or-right, and-left, and-right, found-or-none, Found}
 use Rattle.rules.proofs.Step.{dropped-even, dropped-odd, dropped-half, dropped-turns}
 
 -- ---- drops beside a tick

@@ -12,7 +12,7 @@
 use mathlib.Core.Bool.{Bool}
 use Prim.Native.Nat.{ℕ, _+_, _*_, _/_}
 use lib.Dec.{ltb}
-use Rattle.rules.specs.Sums.{Subset, bit, sum, number}
+use Rattle.rules.specs.Sums.{Subset, number}
 
 pub record Task : Type 0 where
   pub e : ℕ

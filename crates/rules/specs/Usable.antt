@@ -7,7 +7,7 @@
 --     grid N v g    N equal slots of v ticks, slot i from i × v to (i + 1) × v; those in the set g are the painter's
 --
 -- Differs from document 000, Definition 1, in that a slot may end at w and that no slots is a table.
-use mathlib.Core.Bool.{Bool, true, _&&_}
+use mathlib.Core.Bool.{true, _&&_}
 use mathlib.Core.List.{List}
 use Prim.Native.Nat.{ℕ, _+_, _*_, _%_}
 use lib.Dec.{leb, ltb}

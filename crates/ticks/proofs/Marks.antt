@@ -1,20 +1,19 @@
 -- Which ticks of a grant's wheel are usable, and the fill of its total slot by slot. Assumes nothing.
 use mathlib.Core.Path.{_≡_, refl, sym, ap, _∙_}
-use mathlib.Core.Logic.{_⊎_, inl, inr, ⊎-elim}
+use mathlib.Core.Logic.{⊎-elim}
 use mathlib.Core.Bool.{Bool, true, false, _&&_, and-false}
 use mathlib.Core.List.{List}
-use Prim.Native.Nat.{ℕ, zero, suc, _+_, _-_, _*_, _%_, _≤_, _<_}
-use native.Mathlib.Nat.{mod-eq-of-lt, le-refl, le-trans, le-antisymm, add-mul, one-mul, zero-mul, mul-le-mul-right, eq-or-lt-of-le}
+use Prim.Native.Nat.{ℕ, suc, _+_, _*_, _≤_, _<_}
+use native.Mathlib.Nat.{mod-eq-of-lt, le-antisymm, add-mul, one-mul, zero-mul, mul-le-mul-right}
 use native.Mathlib.Omega.{arith}
 use native.Mathlib.Decide.{ℕ-discrete}
 use lib.Dec.{leb, ltb, eqb}
 use lib.ListN.{length, getD, set, length-set}
 use borrow.Author.Tests.{le-leb, lt-leb, lt-ltb, le-ltb, eq-eqb, ne-eqb}
-use Rattle.limits.specs.Limits.{mostTicks}
 use Rattle.rules.specs.Sums.{Subset, bit, any, number}
-use Rattle.rules.specs.Usable.{Slot, covers, usable, grid}
+use Rattle.rules.specs.Usable.{covers, usable, grid}
 use Rattle.rules.specs.Grant.{first, gridTicks}
-use Rattle.rules.proofs.Sums.{le-or-lt, any-intro, any-none, bit-le, number-none, number-more, number-le}
+use Rattle.rules.proofs.Sums.{le-or-lt, any-intro, any-none, number-none, number-more}
 use Rattle.ticks.specs.Total.{Upto, Ramp, Ramped, freeOf, GridFits}
 use Rattle.ticks.proofs.Ramps.{ramp-total}
 use Rattle.ticks.proofs.Slots.{upto-small, upto-none}

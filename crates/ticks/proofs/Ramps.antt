@@ -1,14 +1,13 @@
 -- A ramp, place by place, and what it does to the running total. Assumes nothing.
-use mathlib.Core.Path.{_≡_, refl, sym, ap, _∙_}
+use mathlib.Core.Path.{_≡_, refl, ap, _∙_}
 use mathlib.Core.Logic.{⊎-elim}
-use mathlib.Core.Bool.{Bool, true, false}
+use mathlib.Core.Bool.{Bool}
 use mathlib.Core.List.{List}
-use Prim.Native.Nat.{ℕ, zero, suc, _+_, _-_, _*_, _≤_, _<_}
-use native.Mathlib.Nat.{add-zero, sub-self, mul-zero, mul-add, mul-one, mul-comm, mul-le-mul-right, one-mul, le-antisymm, eq-or-lt-of-le}
+use Prim.Native.Nat.{ℕ, _+_, _-_, _*_, _≤_, _<_}
+use native.Mathlib.Nat.{sub-self, mul-zero, mul-add, mul-one, mul-comm, mul-le-mul-right, le-antisymm, eq-or-lt-of-le}
 use native.Mathlib.Omega.{arith}
 use lib.ListN.{length, getD, set, length-set}
 use lib.Seq.{getD-set-same, getD-set-other}
-use Rattle.limits.specs.Limits.{mostTicks}
 use Rattle.rules.specs.Sums.{Subset, bit, number}
 use Rattle.rules.proofs.Sums.{le-or-lt, number-split, number-const}
 use Rattle.ticks.specs.Total.{Upto, Ramp, Ramped}

@@ -2,10 +2,10 @@
 --
 -- In order: what a good slot is; slots in order; ticks in a slot and between slots; filling slot by slot.
 use mathlib.Core.Path.{_≡_, refl, sym, ap, _∙_}
-use mathlib.Core.Logic.{_⊎_, inl, inr, ⊎-elim}
-use mathlib.Core.Bool.{Bool, true, false, _&&_, and-false}
+use mathlib.Core.Logic.{⊎-elim}
+use mathlib.Core.Bool.{true, false, _&&_, and-false}
 use mathlib.Core.List.{List}
-use Prim.Native.Nat.{ℕ, zero, suc, _+_, _-_, _*_, _%_, _≤_, _<_}
+use Prim.Native.Nat.{ℕ, zero, suc, _+_, _-_, _≤_, _<_}
 use native.Mathlib.Nat.{mod-eq-of-lt, le-refl, le-trans, not-suc-le-zero, zero-lt-suc, le-of-suc-le-suc, eq-or-lt-of-le}
 use native.Mathlib.Numerals.{add-one}
 use native.Mathlib.Omega.{arith}
@@ -15,7 +15,7 @@ use lib.Seq.{getD-set-same}
 use borrow.Author.Tests.{leb-false, ltb-false, le-leb, lt-leb, lt-ltb, le-ltb}
 use Rattle.limits.specs.Limits.{mostTicks}
 use Rattle.limits.proofs.Refusals.{both-none, when-none}
-use Rattle.rules.specs.Sums.{Subset, bit, any, number}
+use Rattle.rules.specs.Sums.{Subset, bit}
 use Rattle.rules.specs.Usable.{Slot, Table, covers, usable}
 use Rattle.rules.proofs.Sums.{le-or-lt, any-intro, any-none, number-none, number-le}
 use Rattle.records.specs.Refusals.{slotRefusal, endBefore, firstBad}

@@ -1,5 +1,4 @@
 -- `counts::drop_at` meets its contract: the supply against the need (proofs/Halves.antt). Assumes nothing.
-use mathlib.Core.Path.{_≡_, refl, sym, ap, _∙_}
 use Rattle.counts.proofs.Halves.{drop-yes, drop-no}
 use borrow.Author.Needs.{needs}
 use native.Mathlib.Omega.{arith}

@@ -1,5 +1,5 @@
 -- `counts::rest` meets its contract: one law for each way out (proofs/Windows.antt). Assumes nothing.
-use mathlib.Core.Path.{_≡_, refl, sym, ap, _∙_}
+use mathlib.Core.Path.{_≡_}
 use Prim.Native.Nat.{_+_}
 use Rattle.rules.specs.Sums.{Subset}
 use Rattle.rules.specs.Supply.{supply}

@@ -1,10 +1,5 @@
 -- `counts::supply` meets its contract: twice a tick's supply, or that of two neighbours (proofs/Halves.antt). Assumes nothing.
-use mathlib.Core.Path.{_≡_, refl, sym, ap, _∙_}
 use native.Mathlib.Nat.{mod-lt}
-use Rattle.rules.specs.Sums.{Subset}
-use Rattle.rules.specs.Supply.{supply}
-use Rattle.rules.specs.Worst.{Wheel}
-use Rattle.ticks.specs.Total.{Upto}
 use Rattle.counts.proofs.Halves.{half-even, half-odd}
 use borrow.Author.Needs.{needs}
 use native.Mathlib.Omega.{arith}

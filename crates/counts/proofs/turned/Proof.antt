@@ -1,5 +1,5 @@
 -- `counts::turned` meets its contract: a turn has at most w usable ticks. Assumes nothing.
-use mathlib.Core.Path.{_≡_, refl, sym, ap, _∙_}
+use mathlib.Core.Path.{ap}
 use Prim.Native.Nat.{_*_, _/_}
 use Rattle.counts.proofs.Windows.{turned-le}
 use borrow.Author.Needs.{needs}

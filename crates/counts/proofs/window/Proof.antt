@@ -1,5 +1,5 @@
 -- `counts::window` meets its contract: whole turns and the rest (proofs/Windows.antt). Assumes nothing.
-use mathlib.Core.Path.{_≡_, refl, sym, ap, _∙_}
+use mathlib.Core.Path.{_≡_}
 use native.Mathlib.Nat.{mod-lt, mod-le}
 use Rattle.rules.specs.Sums.{Subset}
 use Rattle.rules.specs.Supply.{supply}

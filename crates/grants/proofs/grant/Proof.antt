@@ -1,8 +1,6 @@
 -- `grants::grant` meets its contract: one law for each way out (proofs/Calls.antt). Assumes nothing.
-use mathlib.Core.Path.{_≡_, sym, subst, _∙_}
-use Rattle.limits.specs.Limits.{asked}
+use mathlib.Core.Path.{sym, subst, _∙_}
 use Rattle.grants.specs.Grants.{Searched}
-use Rattle.grants.specs.declared.search.Smallest.{Smallest}
 use Rattle.grants.proofs.Calls.{handed, call-refused, call-none, call-granted}
 use borrow.Author.Needs.{needs}
 use native.Mathlib.Omega.{arith}

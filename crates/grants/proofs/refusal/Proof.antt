@@ -1,5 +1,5 @@
 -- `grants::refusal` meets its contract: each way out is the first refusal that applies. Assumes nothing.
-use mathlib.Core.Path.{_≡_, refl, sym, ap, _∙_}
+use mathlib.Core.Path.{sym, _∙_}
 use Rattle.limits.specs.Limits.{taskRefusalOf}
 use Rattle.limits.proofs.Refusals.{at-first, at-next, when-true, when-false}
 use Rattle.grants.specs.Grants.{badMark, grantRefusal}

@@ -1,6 +1,6 @@
 -- `judge::drop_test` meets its contract: what the gate lets in is looked at, what it shuts out gives nothing (proofs/Looks.antt).
 -- Assumes nothing.
-use mathlib.Core.Path.{_≡_, refl, sym, ap, _∙_}
+use mathlib.Core.Path.{sym, _∙_}
 use Rattle.judge.proofs.Looks.{enter-number, enter-good, enter-inside, enter-drop, shut-number, shut-drop}
 use borrow.Author.Needs.{needs}
 use native.Mathlib.Omega.{arith}

@@ -1,5 +1,5 @@
 -- `judge::judge` meets its contract: one law for each way out (proofs/Replies.antt). Assumes nothing.
-use mathlib.Core.Path.{_≡_, refl, sym, ap, _∙_}
+use mathlib.Core.Path.{sym, _∙_}
 use Rattle.records.proofs.Parts.{sizes-long}
 use Rattle.judge.proofs.Replies.{reply-sizes, reply-room, reply-refused, reply-good, reply-answered}
 use borrow.Author.Needs.{needs}

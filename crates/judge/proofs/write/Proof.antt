@@ -1,5 +1,5 @@
 -- `judge::write` meets its contract: the bytes that were made are put over the reply. Assumes nothing.
-use mathlib.Core.Path.{_≡_, refl, sym, ap, _∙_}
+use mathlib.Core.Path.{ap, _∙_}
 use denote.Ref.{now}
 use Rattle.octets.specs.Octets.{over}
 use borrow.Author.Needs.{needs}

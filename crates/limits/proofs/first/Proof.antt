@@ -1,5 +1,5 @@
 -- `limits::first` meets its contract, by the two clauses of `otherwise`. Assumes nothing.
-use mathlib.Core.Path.{_≡_, sym, ap, _∙_}
+use mathlib.Core.Path.{sym}
 use Rattle.limits.proofs.Refusals.{otherwise-none, otherwise-some}
 use Rattle.limits.proofs.first.Statement.{statement}
 use Rattle.limits.proofs.first.Tie as tie

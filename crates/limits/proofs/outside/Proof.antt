@@ -1,5 +1,4 @@
 -- `limits::outside` meets its contract: each side of the test is one law. Assumes nothing.
-use mathlib.Core.Path.{_≡_, sym, ap, _∙_}
 use Rattle.limits.proofs.Refusals.{outside-zero, outside-above}
 use Rattle.limits.proofs.outside.Statement.{statement}
 use Rattle.limits.proofs.outside.Tie as tie

@@ -1,5 +1,5 @@
 -- `limits::when` meets its contract, by the two clauses of `when`. Assumes nothing.
-use mathlib.Core.Path.{_≡_, sym, ap, _∙_}
+use mathlib.Core.Path.{sym}
 use Rattle.limits.proofs.Refusals.{when-true, when-false}
 use Rattle.limits.proofs.when.Statement.{statement}
 use Rattle.limits.proofs.when.Tie as tie

@@ -1,6 +1,5 @@
 -- `octets::put` meets its contract. The loop's invariant: the first i bytes of `src` stand over the start of what `dst` was.
 -- The measure is what is left of `src`. The laws of such a copy are in proofs/Copy.antt. Assumes nothing.
-use mathlib.Core.Path.{_≡_}
 use Prim.Native.Nat.{_-_}
 use native.Mathlib.Omega.{arith}
 use lib.ListN.{length}

@@ -1,5 +1,5 @@
 -- `records::check` meets its contract: the refusals of the board come before those of the task. Assumes nothing.
-use mathlib.Core.Path.{_≡_, refl, sym, ap, _∙_}
+use mathlib.Core.Path.{sym, ap, _∙_}
 use Rattle.limits.specs.Limits.{taskRefusalOf}
 use Rattle.limits.proofs.Refusals.{at-first, at-next, none-left, task-made, task-refused}
 use Rattle.records.specs.Refusals.{bodyRefusal, checked}

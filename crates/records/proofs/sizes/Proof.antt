@@ -1,5 +1,4 @@
 -- `records::sizes` meets its contract: one law for each way out (proofs/Parts.antt). Assumes nothing.
-use mathlib.Core.Path.{_≡_, refl, sym, ap, _∙_}
 use Rattle.records.proofs.Parts.{sizes-task, sizes-slots, sizes-good}
 use Rattle.records.proofs.sizes.Statement.{statement}
 use Rattle.records.proofs.sizes.Tie as tie

@@ -1,5 +1,4 @@
 -- `sheets::row` meets its contract: the answer that judging wrote, as a line. Assumes nothing.
-use native.Mathlib.Omega.{arith}
 use Rattle.sheets.proofs.Fills.{row-put}
 use borrow.Author.Needs.{needs}
 use Rattle.sheets.proofs.row.Statement.{statement}

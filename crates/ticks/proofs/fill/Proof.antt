@@ -1,6 +1,6 @@
 -- `ticks::fill` meets its contract. The loop's invariant: the total is filled up to `at`, where the slot before slot i ends.
 -- The measure is what is left of the slots. The laws are in proofs/Slots.antt. Assumes nothing.
-use mathlib.Core.Path.{_≡_, refl, sym, ap, _∙_}
+use mathlib.Core.Path.{_∙_}
 use Prim.Native.Nat.{_+_, _-_, _/_, _≤_}
 use lib.ListN.{length, length-set}
 use Rattle.records.specs.Records.{slotBytes, slotAt}

@@ -1,6 +1,6 @@
 -- `ticks::fill_grid` meets its contract. The loop's invariant: slots 0 to i − 1 are filled, and `seen` of them are free.
 -- The measure is what is left of the slots. The laws are in proofs/Marks.antt. Assumes nothing.
-use mathlib.Core.Path.{_≡_, refl, sym, ap, _∙_}
+use mathlib.Core.Path.{_∙_}
 use Prim.Native.Nat.{_-_}
 use lib.Dec.{eqb}
 use lib.ListN.{length, getD, length-set}

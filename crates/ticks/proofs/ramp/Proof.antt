@@ -1,6 +1,5 @@
 -- `ticks::ramp` meets its contract. The loop's invariant: the total holds up to place x, where it is `sum`, at most x.
 -- The measure is what is left of the way. The laws are in proofs/Ramps.antt. Assumes nothing.
-use mathlib.Core.Path.{_≡_, refl, sym, ap, _∙_}
 use Prim.Native.Nat.{_-_}
 use Rattle.ticks.proofs.Ramps.{Climbing, climb-start, climb-small, climb-more, climb-end}
 use native.Mathlib.Omega.{arith}

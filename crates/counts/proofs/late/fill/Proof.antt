@@ -1,8 +1,7 @@
 -- `counts::late::fill` meets its contract: the two passes together are the whole map (proofs/Maps.antt). Assumes nothing.
-use mathlib.Core.Path.{_≡_, refl, sym, ap, _∙_}
-use Prim.Native.Nat.{_+_, _-_, _%_, _<_, _≤_}
+use mathlib.Core.Path.{_≡_}
+use Prim.Native.Nat.{_+_, _-_, _%_, _<_}
 use native.Mathlib.Nat.{mod-lt}
-use Rattle.counts.specs.Counts.{Total}
 use Rattle.counts.proofs.Maps.{whole-map}
 use borrow.Author.Needs.{needs}
 use native.Mathlib.Omega.{arith}

@@ -1,6 +1,6 @@
 -- `grants::search::halve` meets its contract. The loop's invariant: `above` is firm and nothing below `below` is. The measure is
 -- the distance. The laws are in proofs/Halves.antt. Assumes nothing.
-use mathlib.Core.Path.{_≡_, refl, sym, ap, _∙_}
+use mathlib.Core.Path.{_≡_}
 use Prim.Native.Nat.{_-_, _≤_}
 use Rattle.limits.specs.Limits.{asked}
 use Rattle.grants.specs.Grants.{Halving}

@@ -1,5 +1,5 @@
 -- `judge::point::enter` meets its contract: one law for each way out (proofs/Looks.antt). Assumes nothing.
-use mathlib.Core.Path.{_≡_, refl, sym, ap, _∙_}
+use mathlib.Core.Path.{sym, _∙_}
 use Rattle.records.proofs.Parts.{sizes-long}
 use Rattle.judge.proofs.Looks.{gate-sizes, gate-refused, gate-good, gate-beyond, gate-open}
 use borrow.Author.Needs.{needs}

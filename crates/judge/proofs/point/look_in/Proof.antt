@@ -1,5 +1,4 @@
 -- `judge::point::look_in` meets its contract: the running total of the job, asked for supply and drops. Assumes nothing.
-use mathlib.Core.Path.{_≡_, refl, sym, ap, _∙_}
 use Rattle.judge.proofs.Looks.{job-total, job-wheel}
 use borrow.Author.Needs.{needs}
 use native.Mathlib.Omega.{arith}

@@ -1,6 +1,6 @@
 -- `limits::Grid::refusal` meets its contract: the parts of the definition, tested one by one (proofs/Refusals.antt).
 -- Assumes nothing.
-use mathlib.Core.Path.{_≡_, sym, ap, _∙_}
+use mathlib.Core.Path.{sym, _∙_}
 use Rattle.limits.proofs.Refusals.{grid-number, grid-length, grid-product, grid-fits}
 use borrow.Author.Needs.{needs}
 use Rattle.limits.proofs.Grid.refusal.Statement.{statement}

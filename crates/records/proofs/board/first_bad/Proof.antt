@@ -1,6 +1,6 @@
 -- `records::board::first_bad` meets its contract. The loop's invariant: the first i slots are good and end at `before`.
 -- The measure is what is left of the slots. The laws of the walk are in proofs/Walk.antt. Assumes nothing.
-use mathlib.Core.Path.{_≡_, refl, sym, ap, _∙_}
+use mathlib.Core.Path.{sym, ap, _∙_}
 use Prim.Native.Nat.{_+_, _-_, _/_, _≤_}
 use lib.ListN.{length}
 use Rattle.rules.specs.Usable.{Slot}

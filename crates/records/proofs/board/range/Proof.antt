@@ -1,5 +1,5 @@
 -- `records::board::range` meets its contract: one law for each way out (proofs/Parts.antt). Assumes nothing.
-use mathlib.Core.Path.{_≡_, refl, sym, ap, _∙_}
+use mathlib.Core.Path.{_∙_}
 use Rattle.records.proofs.Parts.{range-over, range-rest}
 use borrow.Author.Needs.{needs}
 use Rattle.records.proofs.board.range.Statement.{statement}

@@ -1,5 +1,5 @@
 -- `records::board::refusal` meets its contract: each way out is the first refusal that applies. Assumes nothing.
-use mathlib.Core.Path.{_≡_, refl, sym, ap, _∙_}
+use mathlib.Core.Path.{sym, _∙_}
 use native.Mathlib.Nat.{zero-lt-suc}
 use borrow.Author.Tests.{lt-ltb, le-ltb, ltb-false}
 use Rattle.limits.proofs.Refusals.{at-first, at-next, when-none, when-true, when-false}

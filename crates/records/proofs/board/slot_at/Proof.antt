@@ -1,5 +1,4 @@
 -- `records::board::slot_at` meets its contract: its two numbers are the two fields. Assumes nothing.
-use mathlib.Core.Path.{_≡_, refl, sym, ap, _∙_}
 use Rattle.records.specs.Records.{slotAt}
 use borrow.Author.Needs.{needs}
 use Rattle.records.proofs.board.slot_at.Statement.{statement}

@@ -1,5 +1,5 @@
 -- `records::board::wheel` meets its contract: a constructor's answer has the number of its refusal. Assumes nothing.
-use mathlib.Core.Path.{_≡_, refl, sym, ap, _∙_}
+use mathlib.Core.Path.{sym, ap, _∙_}
 use Rattle.limits.specs.Limits.{wheelNumber}
 use Rattle.limits.proofs.Refusals.{wheel-number}
 use borrow.Author.Needs.{needs}

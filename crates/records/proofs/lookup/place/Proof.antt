@@ -1,6 +1,6 @@
 -- `records::lookup::place` meets its contract. The loop's invariant: no record below i has the id. The measure is what is
 -- left of the records. The laws of the search are in proofs/Places.antt. Assumes nothing.
-use mathlib.Core.Path.{_≡_, refl, sym, ap, _∙_}
+use mathlib.Core.Path.{_≡_, refl, sym, _∙_}
 use Prim.Native.Nat.{_-_}
 use borrow.Author.Tests.{eq-eqb, ne-eqb}
 use Rattle.records.specs.Lookup.{whole, has, place}
