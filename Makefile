@@ -4,26 +4,51 @@ INCLUDE := include
 PREFIX ?= /usr/local
 DESTDIR ?=
 SITE ?= examples/site
-CC ?= cc
-CXX ?= c++
 CFLAGS := -std=c11 -Wall -Wextra -Wpedantic -Werror -O2
 CPPFLAGS := -I$(INCLUDE) -Ihost
 HEADER := $(INCLUDE)/fiddlequill.h
-SANITIZE := -fsanitize=address,undefined -fno-sanitize-recover=all -g
+SANITIZE := -fno-sanitize-recover=all -g
 RATTLE := $(wildcard crates/*/src/*.rt crates/*/specs/*.antt crates/*/proofs/*.antt) \
 	$(shell find crates -name Proof.antt) crates.txt
 
-# Baselines are measured at their best: clang -O3 where there is a clang.
-BENCH_CC := $(shell command -v clang >/dev/null 2>&1 && echo clang || echo $(CC))
+# The archive holds x86-64 code. On another machine the C programs are compiled for x86-64 as well and run in an emulator, and address checks,
+# which an emulator has no room for, are left to x86-64. DECISIONS says why.
+ifeq ($(shell uname -m),x86_64)
+EMULATOR :=
+SANITIZE += -fsanitize=address,undefined
+else
+CROSS := x86_64-linux-gnu
+EMULATOR := qemu-x86_64 -L /usr/$(CROSS)
+SANITIZE += -fsanitize=undefined
+ifeq ($(origin CC),default)
+CC := $(CROSS)-gcc
+endif
+endif
+
+# A program that this machine can start: the program itself, or a script that starts it in the emulator.
+start = $(if $(EMULATOR),@printf '#!/bin/sh\nexec $(EMULATOR) "$$0.x86-64" "$$@"\n' >$@ && chmod +x $@)
+
+define link
+@mkdir -p $(@D)
+$(CC) $(LDFLAGS) $(1) $^ $(LDLIBS) -o $@$(if $(EMULATOR),.x86-64)
+$(start)
+endef
+
+# Baselines are measured at their best: clang -O3 where there is a clang. BENCH_ARCHIVE=file measures an archive that was made for this machine.
+BENCH_ARCHIVE ?= $(ARCHIVE)
+BENCH_MADE ?= as it was built
+BENCH_EMULATED := $(if $(EMULATOR),$(if $(filter $(ARCHIVE),$(BENCH_ARCHIVE)),-emulated))
+BENCH_CC := $(if $(BENCH_EMULATED),$(CC),$(shell command -v clang >/dev/null 2>&1 && echo clang || echo cc))
 BENCH_CFLAGS := -std=c11 -Wall -Wextra -Wpedantic -Werror -O3
 BENCH_MACHINE := $(shell uname -sm)$(shell lscpu 2>/dev/null | sed -n 's/^Model name: */, /p')
 
 SECOND := definition inputs tally hand second
+ASKED := definition inputs questions asked files
 DESK := desk files
 BENCH := bench report workload plan fp doubling files
-PROGRAMS := build/second build/stack build/records build/desk build/bench
+PROGRAMS := build/second build/asked build/stack build/halfway build/records build/desk build/bench$(BENCH_EMULATED)
 
-.PHONY: help kit test lib install sheet host header-check host-test soak sanitize bench bench-instructions clean
+.PHONY: help kit tools test lib install sheet host header-check host-test soak sanitize bench bench-instructions clean
 
 help:
 	@echo 'make test                 prove, try the mistakes, run the host programs; last line: N passed, 0 failed'
@@ -40,6 +65,10 @@ test:
 
 kit:
 	@command -v rt >/dev/null || { echo 'make: the Rattle kit is not here: no command rt on the PATH' >&2; exit 1; }
+
+# The compiler and the emulator that a machine other than x86-64 needs for the C programs.
+tools:
+	@host/tools.sh $(if $(EMULATOR),$(CROSS)-gcc $(firstword $(EMULATOR)))
 
 # ---- the library
 
@@ -68,14 +97,17 @@ install: lib
 
 # ---- the sheet
 
-# A site is a folder with tasks.bin and slots.bin; where it has tasks.csv and slots.csv instead, they are turned into those in build/.
-sheet: build/records | kit
-	@test -d '$(SITE)' || { echo 'make sheet: $(SITE): no such folder' >&2; exit 1; }
-	@rt check sheet >build/sheet.log 2>&1 || { cat build/sheet.log >&2; exit 1; }
-	@rm -rf build/sheet-site && cp -R '$(SITE)' build/sheet-site
-	@if test ! -f build/sheet-site/tasks.bin && test -f build/sheet-site/tasks.csv; then build/records make build/sheet-site; fi
-	@for f in tasks.bin slots.bin; do test -f build/sheet-site/$$f || { echo "make sheet: $(SITE)/$$f: no such file" >&2; exit 1; }; done
-	@bin=$$PWD/target/bin/sheet; cd build/sheet-site && "$$bin"
+# A site is a folder with tasks.bin and slots.bin, or with tasks.csv and slots.csv. Standard output has the sheet alone.
+sheet:
+	@$(MAKE) -s build/sheet build/records >&2
+	@host/sheet.sh build/sheet build/records '$(SITE)' build/sheet-site
+
+# A proved program, for this machine to start.
+build/sheet build/questions: build/%: $(RATTLE) | kit tools
+	@mkdir -p build
+	@rt check $* >build/$*.log 2>&1 || { cat build/$*.log >&2; exit 1; }
+	cp target/bin/$* $@$(if $(EMULATOR),.x86-64)
+	$(start)
 
 # ---- the C programs
 
@@ -85,73 +117,89 @@ host: $(PROGRAMS) header-check
 header-check: $(HEADER)
 	$(CXX) -Wall -Wextra -Wpedantic -Werror -I$(INCLUDE) -fsyntax-only host/header.cpp
 
-host-test: host
+host-test: host build/sheet build/questions
 	host/records-test.sh build/records
 	rm -rf build/site && cp -R examples/site build/site
 	build/records make build/site
+	host/sheet-test.sh build/sheet build/records build/halfway build/site
 	build/desk build/site >build/site/desk.out
 	diff examples/site/desk.expected build/site/desk.out
 	examples/desk-test.sh build/desk build/site
 	build/stack
-	build/second
+	rm -rf build/asked-room && mkdir build/asked-room
+	build/asked '$(CURDIR)/build/questions' build/asked-room
+	host/halves.sh build/second 200000 20260
 
 soak: build/second
 	build/second 5000000 $$(od -An -N4 -tu4 /dev/urandom | tr -d ' ')
 
-sanitize: build/sanitized/second build/sanitized/desk build/sanitized/records
+sanitize: build/questions build/sanitized/second build/sanitized/asked build/sanitized/desk build/sanitized/records
 	host/records-test.sh build/sanitized/records
 	rm -rf build/sanitized/site && cp -R examples/site build/sanitized/site
 	build/sanitized/records make build/sanitized/site
 	build/sanitized/desk build/sanitized/site >build/sanitized/site/desk.out
 	diff examples/site/desk.expected build/sanitized/site/desk.out
+	rm -rf build/sanitized/asked-room && mkdir build/sanitized/asked-room
+	build/sanitized/asked '$(CURDIR)/build/questions' build/sanitized/asked-room
 	build/sanitized/second 20000
 
-bench: build/bench
-	BENCH_MACHINE='$(BENCH_MACHINE)' build/bench bench
+bench: build/bench$(BENCH_EMULATED)
+	@test -z '$(BENCH_EMULATED)' || { echo 'make bench: this machine runs the archive in an emulator, and times there say nothing; BENCH_ARCHIVE=file measures one for this machine' >&2; exit 1; }
+	BENCH_MACHINE='$(BENCH_MACHINE)' BENCH_MADE='$(BENCH_MADE)' $< bench
 
-bench-instructions: build/bench
-	bench/instructions.sh build/bench
+bench-instructions: build/bench$(BENCH_EMULATED)
+	@test -z '$(BENCH_EMULATED)' || { echo 'make bench-instructions: an emulator has other instructions; BENCH_ARCHIVE=file counts those of an archive for this machine' >&2; exit 1; }
+	bench/instructions.sh $<
 
 clean:
 	rm -rf build target
 
 build/second: $(SECOND:%=build/host/%.o) $(ARCHIVE)
-	$(CC) $(LDFLAGS) $^ $(LDLIBS) -o $@
+	$(call link,)
+
+build/asked: $(ASKED:%=build/host/%.o)
+	$(call link,)
 
 build/stack: build/host/stack.o $(ARCHIVE)
-	$(CC) $(LDFLAGS) $^ $(LDLIBS) -pthread -o $@
+	$(call link,-pthread)
+
+build/halfway: build/host/halfway.o build/host/files.o
+	$(call link,)
 
 build/records: build/host/records.o build/host/files.o
-	$(CC) $(LDFLAGS) $^ $(LDLIBS) -o $@
+	$(call link,)
 
 build/desk: $(DESK:%=build/host/%.o) $(ARCHIVE)
-	$(CC) $(LDFLAGS) $^ $(LDLIBS) -o $@
+	$(call link,)
 
-build/bench: $(BENCH:%=build/bench-objects/%.o) $(ARCHIVE)
+build/bench$(BENCH_EMULATED): $(BENCH:%=build/bench-objects$(BENCH_EMULATED)/%.o) $(BENCH_ARCHIVE)
 	$(BENCH_CC) $(LDFLAGS) $^ $(LDLIBS) -o $@
 
 build/sanitized/second: $(SECOND:%=build/sanitized/%.o) $(ARCHIVE)
-	$(CC) $(SANITIZE) $^ $(LDLIBS) -o $@
+	$(call link,$(SANITIZE))
+
+build/sanitized/asked: $(ASKED:%=build/sanitized/%.o)
+	$(call link,$(SANITIZE))
 
 build/sanitized/records: build/sanitized/records.o build/sanitized/files.o
-	$(CC) $(SANITIZE) $^ $(LDLIBS) -o $@
+	$(call link,$(SANITIZE))
 
 build/sanitized/desk: $(DESK:%=build/sanitized/%.o) $(ARCHIVE)
-	$(CC) $(SANITIZE) $^ $(LDLIBS) -o $@
+	$(call link,$(SANITIZE))
 
 # The definition adds up cells by the billion; let the compiler take several at once.
 build/host/definition.o build/sanitized/definition.o: CFLAGS += -O3
 
 vpath %.c host examples bench
 
-build/host/%.o: %.c $(HEADER) $(wildcard host/*.h)
+build/host/%.o: %.c $(HEADER) $(wildcard host/*.h) | tools
 	@mkdir -p $(@D)
 	$(CC) $(CFLAGS) $(CPPFLAGS) -c $< -o $@
 
-build/sanitized/%.o: %.c $(HEADER) $(wildcard host/*.h)
+build/sanitized/%.o: %.c $(HEADER) $(wildcard host/*.h) | tools
 	@mkdir -p $(@D)
 	$(CC) $(CFLAGS) $(SANITIZE) $(CPPFLAGS) -c $< -o $@
 
-build/bench-objects/%.o: %.c $(HEADER) $(wildcard host/*.h bench/*.h)
+build/bench-objects$(BENCH_EMULATED)/%.o: %.c $(HEADER) $(wildcard host/*.h bench/*.h)
 	@mkdir -p $(@D)
 	$(BENCH_CC) $(BENCH_CFLAGS) $(CPPFLAGS) -DBENCH_FLAGS='"$(BENCH_CFLAGS)"' -c $< -o $@

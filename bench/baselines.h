@@ -1,5 +1,5 @@
 /*
- * What the archive is measured against. Both baselines take the same bytes as
+ * What the archive is measured against. All baselines take the same bytes as
  * fiddlequill_judge, refuse alike, and write the same answer record.
  */
 #ifndef BASELINES_H
@@ -38,6 +38,10 @@ uint32_t fp_judge(const uint8_t *task, size_t task_len, const uint8_t *slots, si
 /* Doubling in its plain form: 16-bit counts, natural order. */
 uint32_t doubling_judge(const uint8_t *task, size_t task_len, const uint8_t *slots, size_t slots_len, uint8_t *reply,
                         size_t reply_len);
+
+/* The same with bytes while counts fit them. */
+uint32_t bytes_judge(const uint8_t *task, size_t task_len, const uint8_t *slots, size_t slots_len, uint8_t *reply,
+                     size_t reply_len);
 
 /* Clears n bytes and reads them. */
 uint32_t floor_pass(uint8_t *bytes, size_t n);

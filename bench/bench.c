@@ -1,7 +1,8 @@
 /*
  * Side by side, in one run and taking turns: the published Finite-Point method
- * (FP), plain doubling in C, the archive, and a floor. Every case compares the
- * answers; the exit status depends on that alone, never on a time.
+ * (FP), plain doubling in C, in 16 bits and with a byte stage, the archive, and a
+ * floor. Every case compares the answers; the exit status depends on that alone,
+ * never on a time.
  *
  *   bench FOLDER           prints the report, writes FOLDER/RESULTS.md and results.csv
  *   bench --once W SLOTS K calls each kind once, for counting instructions
@@ -191,34 +192,36 @@ static void fill_row(struct row *row, const struct workload *load)
 {
     static struct sampling sampling;
     static uint8_t bytes[FIDDLEQUILL_WHEEL_MAX];
-    static const size_t taking_turns[] = {[FP_ROUNDS] = 4, [FP_ONCE] = 3, [FP_SAMPLE] = 5};
+    static const size_t taking_turns[] = {[FP_ROUNDS] = 5, [FP_ONCE] = 4, [FP_SAMPLE] = 6};
     struct judging fp = {.load = load, .judge = fp_judge};
-    struct judging doubling = judged_by(doubling_judge, load), ours = judged_by(fiddlequill_judge, load);
+    struct judging doubling = judged_by(doubling_judge, load), bytewise = judged_by(bytes_judge, load);
+    struct judging ours = judged_by(fiddlequill_judge, load);
     struct floor_run floor_run = {.bytes = bytes, .n = load->cell.w};
     sampling = (struct sampling){.load = load, .fp = load->fp, .state = 1, .sample = 16};
     row->cell = load->cell;
     row->zones = load->fp.zones;
     row->way = way_for(guess_fp(row, &sampling));
     struct contender c[] = {{.run = judge_job, .context = &doubling}, {.run = judge_job, .context = &ours},
-                            {.run = floor_job, .context = &floor_run}, {.run = judge_job, .context = &fp},
-                            {.run = sample_job, .context = &sampling}};
+                            {.run = floor_job, .context = &floor_run}, {.run = judge_job, .context = &bytewise},
+                            {.run = judge_job, .context = &fp}, {.run = sample_job, .context = &sampling}};
     if (row->way == FP_SAMPLE)
-        c[3] = (struct contender){.run = zones_job, .context = &sampling};
+        c[4] = (struct contender){.run = zones_job, .context = &sampling};
     take_turns(c, taking_turns[row->way]);
     row->doubling = median(c[0].times);
     row->ours = median(c[1].times);
     row->floor = median(c[2].times);
+    row->bytewise = median(c[3].times);
     if (row->way == FP_ROUNDS) {
-        row->fp = median(c[3].times);
+        row->fp = median(c[4].times);
     } else if (row->way == FP_ONCE) {
-        c[3].repeats = 1;
-        row->fp = time_job(&c[3]);
+        c[4].repeats = 1;
+        row->fp = time_job(&c[4]);
     } else {
-        row->fp = median(c[3].times);
-        row->fp = sampled_fp(row, row->fp, median(c[4].times), sampling.sample);
+        row->fp = median(c[4].times);
+        row->fp = sampled_fp(row, row->fp, median(c[5].times), sampling.sample);
     }
     row->spread = largest_spread(c, taking_turns[row->way]);
-    row->agree = same_answer(&doubling, &ours) &&
+    row->agree = same_answer(&doubling, &ours) && same_answer(&bytewise, &ours) &&
                  (row->way == FP_SAMPLE ? sample_agrees(&sampling, &ours) : same_answer(&fp, &ours));
 }
 

@@ -1,6 +1,6 @@
 /*
  * The published Finite-Point method in the obvious way (000, equations 6 to 13,
- * Theorem 1), with document 01's window D and its half ticks: each zone start
+ * Theorem 1), with our window D and its half ticks: each zone start
  * and each n below k gives a candidate; each candidate counts k strips; each
  * strip takes a remainder and its supply from the slot list.
  */

@@ -19,15 +19,6 @@ size_t differences(const struct results *results)
 
 /* ---- goals ---- */
 
-static double worst_growth(const struct results *results, enum growth_in in)
-{
-    double worst = 0;
-    for (size_t i = 0; i < results->growths; i++)
-        if (results->growth[i].in == in && results->growth[i].ratio > worst)
-            worst = results->growth[i].ratio;
-    return worst;
-}
-
 static const struct row *row_of(const struct results *results, uint32_t w, uint32_t slots, uint32_t k)
 {
     for (size_t i = 0; i < results->rows; i++) {
@@ -84,30 +75,39 @@ static void print_goal(FILE *out, const char *what, bool at_least, double goal, 
             reached ? "reached" : "missed");
 }
 
-static void print_fp_goal(FILE *out, const struct results *results, struct cell cell, double goal)
+static void print_cell_goal(FILE *out, const struct results *results, const char *ratio, struct cell cell,
+                            bool at_least, double goal, double (*measured)(const struct row *))
 {
     char what[80];
     const struct row *row = row_of(results, cell.w, cell.slots, cell.k);
-    snprintf(what, sizeof what, "FP ÷ ours, %" PRIu32 " / %" PRIu32 " / %" PRIu32 "%s", cell.w, cell.slots, cell.k,
+    snprintf(what, sizeof what, "%s, %" PRIu32 " / %" PRIu32 " / %" PRIu32 "%s", ratio, cell.w, cell.slots, cell.k,
              row->way == FP_SAMPLE ? " (~)" : "");
-    print_goal(out, what, true, goal, fp_ratio(row));
+    print_goal(out, what, at_least, goal, measured(row));
 }
+
+static const struct {
+    struct cell cell;
+    double least;
+} fp_goals[] = {{{16384, 1, 10}, 150}, {{16384, 1, 125}, 150}, {{16384, 4, 10}, 300}};
+
+static const struct {
+    struct cell cell;
+    double most;
+} doubling_goals[] = {{{4096, 1, 10}, 0.1},    {{4096, 4, 10}, 0.1},   {{16384, 1, 10}, 0.05}, {{16384, 4, 10}, 0.05},
+                      {{16384, 16, 10}, 0.05}, {{16384, 1, 125}, 0.1}, {{16384, 4, 125}, 0.1}, {{16384, 16, 125}, 0.1}};
 
 static void print_goals(FILE *out, const struct results *r)
 {
     fprintf(out, "| goal (a cell is w / slots / k) | wanted | measured | |\n|---|---|---:|---|\n");
-    print_fp_goal(out, r, (struct cell){55, 4, 10}, 12);
-    print_fp_goal(out, r, (struct cell){1300, 4, 125}, 200);
-    print_fp_goal(out, r, (struct cell){1300, 4, 1024}, 6000);
-    print_fp_goal(out, r, (struct cell){4096, 64, 1024}, 80000);
     print_goal(out, "FP ÷ ours, the least of all cells", true, 7, least_fp_ratio(r));
-    print_goal(out, "ours ÷ doubling, the most for w from 700", false, 0.6, most_doubling_ratio(r, 700, UINT32_MAX));
+    for (size_t i = 0; i < sizeof fp_goals / sizeof *fp_goals; i++)
+        print_cell_goal(out, r, "FP ÷ ours", fp_goals[i].cell, true, fp_goals[i].least, fp_ratio);
     print_goal(out, "ours ÷ doubling, the most for w below 700", false, 1.0, most_doubling_ratio(r, 0, 699));
-    print_goal(out, "64 slots against 1, the most for w from 4096", false, 1.2, worst_growth(r, IN_SLOTS));
-    print_goal(out, "k 1024 against 10, the most for w 16384", false, 2.5, worst_growth(r, IN_STRIPS));
-    print_goal(out, "w 16384 against 4096, the most", false, 6, worst_growth(r, IN_WHEEL));
-    print_goal(out, "a grant of up to 64 slots, in judgements, the most", false, 7, most_judgements(r));
-    print_goal(out, "stretch: ours ÷ doubling, 16384 / 4 / 10", false, 0.5, doubling_ratio(row_of(r, 16384, 4, 10)));
+    print_goal(out, "ours ÷ doubling, the most for w from 700", false, 0.6, most_doubling_ratio(r, 700, UINT32_MAX));
+    for (size_t i = 0; i < sizeof doubling_goals / sizeof *doubling_goals; i++)
+        print_cell_goal(out, r, "ours ÷ doubling", doubling_goals[i].cell, false, doubling_goals[i].most,
+                        doubling_ratio);
+    print_goal(out, "a grant of up to 64 slots, in judgements, the most", false, 7.5, most_judgements(r));
 }
 
 /* ---- the report ---- */
@@ -134,16 +134,17 @@ static const char *const way_names[] = {[FP_ROUNDS] = "rounds", [FP_ONCE] = "onc
 
 static void print_grid(FILE *out, const struct results *results)
 {
-    fprintf(out, "| w | slots | k | zone starts | FP ÷ ours | ours ÷ doubling "
-                 "| FP (µs) | doubling (µs) | ours (µs) | floor (µs) | FP timed | spread | answers |\n"
-                 "|---:|---:|---:|---:|---:|---:|---:|---:|---:|---:|---|---:|---|\n");
+    fprintf(out, "| w | slots | k | zone starts | FP ÷ ours | ours ÷ doubling | ours ÷ byte stage "
+                 "| FP (µs) | doubling (µs) | byte stage (µs) | ours (µs) | floor (µs) | FP timed | spread | answers |\n"
+                 "|---:|---:|---:|---:|---:|---:|---:|---:|---:|---:|---:|---:|---|---:|---|\n");
     for (size_t i = 0; i < results->rows; i++) {
         const struct row *row = &results->row[i];
         const char *about = row->way == FP_SAMPLE ? "~" : "";
-        fprintf(out, "| %" PRIu32 " | %" PRIu32 " | %" PRIu32 " | %" PRIu32 " | %s%.1f | %.2f ", row->cell.w,
-                row->cell.slots, row->cell.k, row->zones, about, fp_ratio(row), doubling_ratio(row));
-        fprintf(out, "| %s%.1f | %.2f | %.2f | %.2f ", about, row->fp / 1e3, row->doubling / 1e3, row->ours / 1e3,
-                row->floor / 1e3);
+        fprintf(out, "| %" PRIu32 " | %" PRIu32 " | %" PRIu32 " | %" PRIu32 " | %s%.1f | %.2f | %.2f ",
+                row->cell.w, row->cell.slots, row->cell.k, row->zones, about, fp_ratio(row), doubling_ratio(row),
+                row->ours / row->bytewise);
+        fprintf(out, "| %s%.1f | %.2f | %.2f | %.2f | %.2f ", about, row->fp / 1e3, row->doubling / 1e3,
+                row->bytewise / 1e3, row->ours / 1e3, row->floor / 1e3);
         fprintf(out, "| %s | %.2f | %s |\n", way_names[row->way], row->spread, answers_of(row));
     }
 }
@@ -182,9 +183,10 @@ static void print_grants(FILE *out, const struct results *results)
 /* Ratios stand before times in every table: they are what carries over to another machine. */
 void print_report(FILE *out, const struct results *results)
 {
-    const char *machine = getenv("BENCH_MACHINE");
+    const char *machine = getenv("BENCH_MACHINE"), *archive = getenv("BENCH_MADE");
     fprintf(out, "# Bench\n\nFP is the published Finite-Point method in the obvious C, doubling the plain form of "
-                 "doubling in C,\nours the archive, floor clearing and reading w bytes.\n\n");
+                 "doubling in C with 16-bit\ncounts, byte stage the same with bytes while counts fit them, ours the "
+                 "archive, floor clearing and reading w bytes.\n\n");
     fprintf(out, "## Goals\n\n");
     print_goals(out, results);
     fprintf(out, "\n## Judging\n\nThe slots lie at an even pitch, each half of it long and moved a little; D = h is a "
@@ -204,7 +206,7 @@ void print_report(FILE *out, const struct results *results)
     print_grants(out, results);
     fprintf(out, "\n## Conditions\n\n- machine: %s\n", machine != NULL ? machine : "not told");
     print_compiler(out);
-    fprintf(out, "- flags: %s\n- archive: as it was built\n", BENCH_FLAGS);
+    fprintf(out, "- flags: %s\n- archive: %s\n", BENCH_FLAGS, archive != NULL ? archive : "as it was built");
     fprintf(out, "- runs: medians of %d rounds of at least %.0f µs of processor time each, taking turns\n", ROUNDS,
             batch_ns / 1e3);
     fprintf(out, "\nbench: %zu cases, %zu differences\n", results->rows + results->grants, differences(results));
@@ -212,25 +214,25 @@ void print_report(FILE *out, const struct results *results)
 
 void print_csv(FILE *out, const struct results *results)
 {
-    fprintf(out, "case,w,slots,k,zone_starts,fp_timed,fp_ns,doubling_ns,ours_ns,floor_ns,fp_over_ours,"
-                 "ours_over_doubling,spread,against_w,against_slots,against_k,growth,judgements\n");
+    fprintf(out, "case,w,slots,k,zone_starts,fp_timed,fp_ns,doubling_ns,byte_stage_ns,ours_ns,floor_ns,"
+                 "fp_over_ours,ours_over_doubling,spread,against_w,against_slots,against_k,growth,judgements\n");
     for (size_t i = 0; i < results->rows; i++) {
         const struct row *r = &results->row[i];
         fprintf(out, "judge,%" PRIu32 ",%" PRIu32 ",%" PRIu32 ",%" PRIu32 ",%s,", r->cell.w, r->cell.slots, r->cell.k,
                 r->zones, way_names[r->way]);
-        fprintf(out, "%.1f,%.1f,%.1f,%.1f,%.3f,%.4f,%.3f,,,,,\n", r->fp, r->doubling, r->ours, r->floor, fp_ratio(r),
-                doubling_ratio(r), r->spread);
+        fprintf(out, "%.1f,%.1f,%.1f,%.1f,%.1f,%.3f,%.4f,%.3f,,,,,\n", r->fp, r->doubling, r->bytewise, r->ours,
+                r->floor, fp_ratio(r), doubling_ratio(r), r->spread);
     }
     for (size_t i = 0; i < results->growths; i++) {
         const struct growth *g = &results->growth[i];
         fprintf(out, "growth in %s,", growth_names[g->in]);
         fprintf(out, "%" PRIu32 ",%" PRIu32 ",%" PRIu32, g->large.w, g->large.slots, g->large.k);
-        fprintf(out, ",,,,,,,,,,%" PRIu32 ",%" PRIu32 ",%" PRIu32 ",%.4f,\n", g->small.w, g->small.slots, g->small.k,
+        fprintf(out, ",,,,,,,,,,,%" PRIu32 ",%" PRIu32 ",%" PRIu32 ",%.4f,\n", g->small.w, g->small.slots, g->small.k,
                 g->ratio);
     }
     for (size_t i = 0; i < results->grants; i++) {
         const struct grant_row *g = &results->grant[i];
-        fprintf(out, "grant of %s,%" PRIu32 ",%d,%" PRIu32 ",,,,,%.1f,,,,,,,,,%.4f\n", g->kind, GRANT_SLOTS * g->v,
+        fprintf(out, "grant of %s,%" PRIu32 ",%d,%" PRIu32 ",,,,,,%.1f,,,,,,,,,%.4f\n", g->kind, GRANT_SLOTS * g->v,
                 GRANT_SLOTS, g->k, g->grant, g->judgements);
     }
 }

@@ -20,8 +20,8 @@ enum fp_way { FP_ROUNDS, FP_ONCE, FP_SAMPLE };
 struct row {
     struct cell cell;
     uint32_t zones;
-    double fp, doubling, ours, floor; /* ns */
-    double spread;                    /* the largest of its contenders' quartile ratios */
+    double fp, doubling, bytewise, ours, floor; /* ns */
+    double spread;                              /* the largest of its contenders' quartile ratios */
     enum fp_way way;
     bool agree;
 };

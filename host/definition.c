@@ -1,4 +1,4 @@
-/* Document 01 by definition; see definition.h. */
+/* docs/RULES.md by definition; see definition.h. */
 #include "definition.h"
 
 #include <string.h>
@@ -167,7 +167,16 @@ uint32_t count_at(const struct wheel *wheel, const struct strips *strips, uint64
     return drops;
 }
 
-/* The drops of one turn's half ticks are written down once: a place on the wheel is all a strip knows. */
+/* Rule 4 from half tick t, where the drops of one turn's half ticks are written down: a place on the wheel is all a strip knows. */
+static uint32_t drops_from(const uint8_t *dropped, uint32_t turn, const struct strips *strips, uint32_t t)
+{
+    const uint32_t step = (uint32_t)(2 * strips->h), k = (uint32_t)strips->k;
+    uint32_t drops = 0;
+    for (uint32_t n = 0; n < k; n++)
+        drops += dropped[(t + n * step) % turn]; /* below 2^32: at most 1,023 steps of 2,000,000 */
+    return drops;
+}
+
 struct verdict verdict_of(const struct wheel *wheel, const struct strips *strips)
 {
     static const uint64_t q = 2;
@@ -181,14 +190,7 @@ struct verdict verdict_of(const struct wheel *wheel, const struct strips *strips
         verdict.equal_supply |= got == q * strips->e;
     }
     for (uint32_t t = 0; t < cells.turn; t++) {
-        uint32_t drops = 0;
-        uint64_t step = q * strips->h % cells.turn, place = t;
-        for (uint64_t n = 0; n < strips->k; n++) {
-            drops += dropped[place];
-            place += step;
-            if (place >= cells.turn)
-                place -= cells.turn;
-        }
+        uint32_t drops = drops_from(dropped, (uint32_t)cells.turn, strips, t);
         if (drops > verdict.worst) {
             verdict.worst = drops;
             verdict.offset = t;
@@ -230,21 +232,66 @@ static uint64_t packed(uint32_t number, uint64_t value)
     return (uint64_t)number * 4294967296u + value;
 }
 
-uint64_t definition_count(const uint8_t *task_bytes, size_t task_len, const uint8_t *slots, size_t slots_len,
-                          uint64_t offset)
+/* Refusals 1 and 3 to 11, of a question at a half tick. */
+static uint32_t refusal_at(const uint8_t *task, size_t task_len, const uint8_t *slots, size_t slots_len,
+                           uint64_t offset)
 {
     uint32_t number = refusal_of_sizes(task_len, slots_len);
     if (number == 0)
-        number = refusal_of_task(task_bytes, slots, slots_len);
+        number = refusal_of_task(task, slots, slots_len);
+    if (number == 0 && offset >= 2 * (uint64_t)task_of_bytes(task).w)
+        number = 11;
+    return number;
+}
+
+uint64_t definition_count(const uint8_t *task_bytes, size_t task_len, const uint8_t *slots, size_t slots_len,
+                          uint64_t offset)
+{
+    uint32_t number = refusal_at(task_bytes, task_len, slots, slots_len, offset);
     if (number != 0)
         return packed(number, 0);
     struct task task = task_of_bytes(task_bytes);
     struct strips strips = strips_of_task(&task);
     struct wheel wheel;
-    if (offset >= 2 * (uint64_t)task.w)
-        return packed(11, 0);
     wheel_of_task(&wheel, &task, slots);
     return packed(0, count_at(&wheel, &strips, 2, offset));
+}
+
+uint64_t definition_supply(const uint8_t *task_bytes, size_t task_len, const uint8_t *slots, size_t slots_len,
+                           uint64_t offset)
+{
+    uint32_t number = refusal_at(task_bytes, task_len, slots, slots_len, offset);
+    if (number != 0)
+        return packed(number, 0);
+    struct task task = task_of_bytes(task_bytes);
+    struct wheel wheel;
+    wheel_of_task(&wheel, &task, slots);
+    return packed(0, supply_at(&wheel, task.D, 2, offset));
+}
+
+/* Rule 3: dropped with less than e ticks, which are 2e half ticks. */
+uint64_t definition_drop_test(const uint8_t *task_bytes, size_t task_len, const uint8_t *slots, size_t slots_len,
+                              uint64_t offset)
+{
+    uint64_t got = definition_supply(task_bytes, task_len, slots, slots_len, offset);
+    if (got >= packed(1, 0))
+        return got;
+    return packed(0, got < 2 * (uint64_t)task_of_bytes(task_bytes).e);
+}
+
+static const uint8_t *first_with(const uint8_t *records, size_t len, uint32_t id)
+{
+    for (size_t at = 0; at + TASK_BYTES <= len; at += TASK_BYTES)
+        if (get_number(records + at, 4) == id)
+            return records + at;
+    return NULL;
+}
+
+const uint8_t *definition_lookup(const uint8_t *site, size_t site_len, const uint8_t *factory, size_t factory_len,
+                                 uint32_t id)
+{
+    const uint8_t *found = first_with(site, site_len, id);
+    return found != NULL ? found : first_with(factory, factory_len, id);
 }
 
 static bool is_firm(const uint8_t *pick, size_t n, uint64_t v, const struct strips *strips)

@@ -1,5 +1,5 @@
 /*
- * Document 01 by definition, in the slowest honest way: a tick map, cells of
+ * docs/RULES.md by definition, in the slowest honest way: a tick map, cells of
  * 1/q, supply by adding up cells. Nothing here is shared with the judge.
  */
 #ifndef DEFINITION_H
@@ -64,12 +64,20 @@ uint32_t count_at(const struct wheel *wheel, const struct strips *strips, uint64
 /* Rules 6 and 7. */
 struct verdict verdict_of(const struct wheel *wheel, const struct strips *strips);
 
-/* The three calls. A judged reply is written as the archive should write it. */
+/* The calls. A judged reply is written as the archive should write it; other results are packed, the refusal number in the high half. */
 uint32_t definition_judge(const uint8_t *task, size_t task_len, const uint8_t *slots, size_t slots_len,
                           uint8_t *reply, size_t reply_len, struct verdict *verdict);
 uint64_t definition_count(const uint8_t *task, size_t task_len, const uint8_t *slots, size_t slots_len,
                           uint64_t offset);
+uint64_t definition_supply(const uint8_t *task, size_t task_len, const uint8_t *slots, size_t slots_len,
+                           uint64_t offset);
+uint64_t definition_drop_test(const uint8_t *task, size_t task_len, const uint8_t *slots, size_t slots_len,
+                              uint64_t offset);
 uint64_t definition_grant(uint8_t *marks, size_t n, uint64_t v, const struct strips *strips);
+
+/* Where the first whole record with the id begins, in the site file before the factory file; NULL where neither has it. */
+const uint8_t *definition_lookup(const uint8_t *site, size_t site_len, const uint8_t *factory, size_t factory_len,
+                                 uint32_t id);
 
 /* Refusal 13 word for word: is any set of the free slots firm? For few free slots. */
 bool some_set_is_firm(const uint8_t *marks, size_t n, uint64_t v, const struct strips *strips);

@@ -1,4 +1,4 @@
-/* Document 01, "Cases by hand" and "The printed sheet"; see hand.h. */
+/* docs/RULES.md, "Cases by hand" and "The printed sheet"; see hand.h. */
 #include "hand.h"
 
 #include <string.h>

@@ -1,4 +1,4 @@
-/* Document 01's cases by hand, as inputs with the outcome that the paper prints. */
+/* The cases by hand of docs/RULES.md, as inputs with the outcome that it prints. */
 #ifndef HAND_H
 #define HAND_H
 

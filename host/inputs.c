@@ -6,6 +6,8 @@
  */
 #include "inputs.h"
 
+#include <stdio.h>
+#include <stdlib.h>
 #include <string.h>
 
 #define LENGTH(array) (sizeof(array) / sizeof *(array))
@@ -13,9 +15,26 @@
 /* Cells that the definition may add up for one input. */
 static const uint64_t small_work = 200000, medium_work = 8000000, large_work = 100000000, huge_work = 3000000000;
 
-enum { MEDIUM_EVERY = 100, LARGE_EVERY = 200, HUGE_EVERY = 20000 };
+enum { MEDIUM_EVERY = 100, LARGE_EVERY = 200, HUGE_EVERY = 20000, EDGE_EVERY = 200 };
+
+const uint32_t wheel_edges[WHEEL_EDGES] = {255,  256,  257,  2047, 2048, 2049,  4095,
+                                           4096, 4097, 8191, 8192, 8193, 16383, 16384};
+
+/* Strips of the uses: few, more of them while a byte still counts them, and as many as no byte does. */
+enum { FEW_STRIPS = 4, SOME_STRIPS = 64, MANY_STRIPS_FROM = 256 };
 
 static const uint64_t two_to_32 = 4294967296u;
+
+uint64_t number_argument(const char *program, const char *text)
+{
+    char *end;
+    uint64_t number = strtoull(text, &end, 10);
+    if (*text < '0' || *text > '9' || *end != '\0') {
+        fprintf(stderr, "%s: \"%s\" isn't a number\n", program, text);
+        exit(2);
+    }
+    return number;
+}
 
 struct rng rng_for(uint64_t seed, uint64_t number)
 {
@@ -353,10 +372,9 @@ static uint64_t some_tick(struct rng *rng, uint64_t w)
  * from one to the other, or just beside: two drops meet at one or two half
  * ticks only, so a single wrong place of a large wheel shows.
  */
-static void draft_holes(struct rng *rng, struct draft *draft)
+static void draft_holes(struct rng *rng, struct draft *draft, uint64_t w)
 {
     struct strips *s = &draft->strips;
-    uint64_t w = one_in(rng, 2) ? WHEEL_MAX : 1 + at_most(large_wheel(rng), WHEEL_MAX - 1);
     uint64_t from = some_tick(rng, w), to = some_tick(rng, w), beside = below(rng, 3);
     uint64_t low = at_most(from, to), high = from + to - low;
     draft->table.n = 0;
@@ -367,8 +385,24 @@ static void draft_holes(struct rng *rng, struct draft *draft)
     s->h = (to + 2 * w - from - 1 + beside) % w;
     s->h += w * (3 + below(rng, 3)); /* at least any D below */
     s->D = s->e = 1 + below(rng, 3);
-    s->k = 2 + below(rng, 3);
+    s->k = 2 + below(rng, FEW_STRIPS - 1);
     s->m = below(rng, s->k + 1);
+    draft->task.w = (uint32_t)w;
+}
+
+/* The most slots, with a tick or more between them and behind the last, and no tick to spare for a strip: some drop. */
+static void draft_gaps(struct rng *rng, struct draft *draft, uint64_t w, uint64_t k)
+{
+    struct strips *s = &draft->strips;
+    uint64_t length = 1 + below(rng, w / SLOTS_MAX - 1);
+    draft->table.n = 0;
+    draft->table.room = SLOTS_MAX;
+    for (uint64_t i = 0; i < SLOTS_MAX; i++)
+        put_slot(&draft->table, w * i / SLOTS_MAX, w * i / SLOTS_MAX + length);
+    s->D = s->e = 1 + below(rng, 3);
+    s->h = s->D + below(rng, 3 * w);
+    s->k = k;
+    s->m = below(rng, k + 1);
     draft->task.w = (uint32_t)w;
 }
 
@@ -501,7 +535,7 @@ static void make_task_input(struct rng *rng, struct input *input, uint64_t work)
 {
     struct draft draft;
     if (work == small_work && one_in(rng, 60)) {
-        draft_holes(rng, &draft);
+        draft_holes(rng, &draft, one_in(rng, 2) ? WHEEL_MAX : 1 + at_most(large_wheel(rng), WHEEL_MAX - 1));
         work = medium_work;
     } else {
         draft_task(rng, &draft, input->kind, work);
@@ -527,6 +561,70 @@ static void make_task_input(struct rng *rng, struct input *input, uint64_t work)
     input->offset = some_offset(rng, task_of_bytes(input->task).w);
     input->reply_len = some_reply_length(rng);
     scribble(rng, input->reply, REPLY_ROOM);
+}
+
+/* ---- wheels at an edge: drops and grants are certain, and wheel and use go round, so that a short run meets each ---- */
+
+enum edge_use edge_use_of(const struct task *task)
+{
+    if (task->k <= FEW_STRIPS)
+        return EDGE_FEW;
+    if (task->count < SLOTS_MAX || task->k < SOME_STRIPS)
+        return EDGE_USES;
+    return task->k < MANY_STRIPS_FROM ? EDGE_SOME : EDGE_MANY;
+}
+
+static void draft_edge(struct rng *rng, struct draft *draft, uint64_t w, enum edge_use use)
+{
+    if (use == EDGE_FEW)
+        draft_holes(rng, draft, w);
+    else if (use == EDGE_MANY)
+        draft_gaps(rng, draft, w, MANY_STRIPS_FROM + below(rng, 64));
+    else
+        draft_gaps(rng, draft, w, SOME_STRIPS + below(rng, MANY_STRIPS_FROM - SOME_STRIPS));
+}
+
+static void make_edge_task(struct rng *rng, struct input *input, uint64_t w, enum edge_use use)
+{
+    struct draft draft;
+    input->kind = use == EDGE_COUNT ? COUNT : JUDGE;
+    draft_edge(rng, &draft, w, use);
+    place_slots(rng, &draft);
+    strips_into_task(&draft.task, &draft.strips);
+    task_to_bytes(&draft.task, input->task);
+    input->task_len = TASK_BYTES;
+    lay_slots(rng, input, &draft, draft.task.first);
+    input->offset = 2 * w - 1 - below(rng, 2); /* behind the last slot, where the first strip drops */
+    input->reply_len = ANSWER_BYTES;
+    scribble(rng, input->reply, REPLY_ROOM);
+}
+
+/* All slots are free and no strip needs more than a full wheel has. */
+static void make_edge_grant(struct rng *rng, struct input *input, uint64_t w)
+{
+    struct strips *s = &input->strips;
+    size_t n = 1 + below(rng, SLOTS_MAX);
+    while (w % n != 0)
+        n--;
+    input->kind = GRANT;
+    input->marks_len = n;
+    input->v = w / n;
+    memset(input->marks, 1, MARKS_ROOM);
+    s->D = 1 + below(rng, 6);
+    s->e = 1 + below(rng, s->D);
+    s->h = s->D + below(rng, 3 * w);
+    s->k = 1 + below(rng, 10);
+    s->m = 1 + below(rng, s->k);
+}
+
+static void make_edge_input(struct rng *rng, struct input *input, uint64_t number)
+{
+    uint64_t w = wheel_edges[number % WHEEL_EDGES];
+    enum edge_use use = (enum edge_use)(number / WHEEL_EDGES % EDGE_USES);
+    if (use == EDGE_GRANT)
+        make_edge_grant(rng, input, w);
+    else
+        make_edge_task(rng, input, w, use);
 }
 
 /* ---- granting ---- */
@@ -620,7 +718,9 @@ void make_input(struct input *input, struct rng *rng, uint64_t number)
     uint64_t work = work_for(number), kind = below(rng, 10);
     input->kind = kind < 5 ? JUDGE : kind < 8 ? COUNT : GRANT;
     input->null_when_empty = one_in(rng, 2);
-    if (input->kind == GRANT)
+    if (number % EDGE_EVERY == EDGE_EVERY / 4)
+        make_edge_input(rng, input, number / EDGE_EVERY);
+    else if (input->kind == GRANT)
         make_grant_input(rng, input, work);
     else
         make_task_input(rng, input, work);

@@ -25,9 +25,22 @@ struct input {
     struct strips strips; /* a grant's e, d, h, m, k */
 };
 
+/* Wheels at which the judge may take larger arrays, one less and one more. */
+enum { WHEEL_EDGES = 14 };
+extern const uint32_t wheel_edges[WHEEL_EDGES];
+
+/* What must be asked of each of them, and met with drops or granted slots. */
+enum edge_use { EDGE_FEW, EDGE_SOME, EDGE_MANY, EDGE_COUNT, EDGE_GRANT, EDGE_USES };
+
+/* The use of a judged task, by its strips and slots; EDGE_USES for none. */
+enum edge_use edge_use_of(const struct task *task);
+
 struct rng {
     uint64_t state;
 };
+
+/* How many inputs, or their seed, as `program` was given it; what isn't a number ends the program. */
+uint64_t number_argument(const char *program, const char *text);
 
 /* Every input has its own row of random numbers, so a failure can be made again alone. */
 struct rng rng_for(uint64_t seed, uint64_t number);

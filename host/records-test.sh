@@ -74,6 +74,19 @@ printf '%s\n67305985,2,3,4,5,6,7,258,9\n' "$tasks_header" >"$folder/tasks.csv"
 bytes=$(od -An -v -tx1 "$folder/tasks.bin" | tr -d ' \n')
 [ "$bytes" = 0102030402000000030000000400000005000000060000000700000002010900 ] || fail "bytes: $bytes"
 
+# A byte-order mark before the first line, as spreadsheets write it, changes no byte of the records.
+tried=$((tried + 1))
+fresh
+"$records" make "$folder" || fail 'byte-order mark: make without'
+for table in tasks slots; do
+    cp "$folder/$table.bin" "$folder/$table.first"
+    { printf '\357\273\277'; cat "$folder/$table.csv"; } >"$folder/marked"
+    mv "$folder/marked" "$folder/$table.csv"
+done
+"$records" make "$folder" || fail 'byte-order mark: make'
+cmp -s "$folder/tasks.bin" "$folder/tasks.first" || fail 'byte-order mark: tasks.bin'
+cmp -s "$folder/slots.bin" "$folder/slots.first" || fail 'byte-order mark: slots.bin'
+
 # No records is a good table.
 tried=$((tried + 1))
 fresh
@@ -98,6 +111,12 @@ fresh; echo '1,55,27,70,70,3,10,0,2' >"$folder/tasks.csv"
 complains 'no header' 'tasks.csv:1: field id: the header has another name here: "1"'
 fresh; : >"$folder/tasks.csv"
 complains 'an empty table' 'tasks.csv:1: field id: no header line'
+fresh; printf '\357\273\277' >"$folder/tasks.csv"
+complains 'a byte-order mark alone' 'tasks.csv:1: field id: no header line'
+fresh; printf '\357\273%s\n' "$tasks_header" >"$folder/tasks.csv"
+complains 'part of a byte-order mark' 'tasks.csv:1: field id: the header has another name here'
+fresh; printf '%s\n\357\273\2771,2\n' "$slots_header" >"$folder/slots.csv"
+complains 'a byte-order mark on a later line' 'slots.csv:2: field start: not a number'
 fresh; echo 'begin,end' >"$folder/slots.csv"
 complains 'another header' 'slots.csv:1: field start: the header has another name here: "begin"'
 fresh; rm "$folder/slots.csv"

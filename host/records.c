@@ -5,7 +5,8 @@
  *   records show FOLDER   prints tasks.bin and slots.bin as tables
  *
  * A table has a header line with its columns' names. Lines that are blank or
- * begin with '#' are skipped. Nothing is judged here: any number that fits its
+ * begin with '#' are skipped, and so is the byte-order mark that spreadsheets
+ * put before the first line. Nothing is judged here: any number that fits its
  * field is taken, so that refusals can be tried too.
  */
 #include "bytes.h"
@@ -174,10 +175,18 @@ static int read_record(const struct table *table, const struct place *place, con
     return 0;
 }
 
+/* The file's text, behind a UTF-8 byte-order mark where it begins with one. */
+static struct text text_of(const struct file *file)
+{
+    static const uint8_t mark[] = {0xef, 0xbb, 0xbf};
+    size_t skip = file->len >= sizeof mark && memcmp(file->bytes, mark, sizeof mark) == 0 ? sizeof mark : 0;
+    return (struct text){(const char *)file->bytes + skip, file->len - skip};
+}
+
 static int read_lines(const struct table *table, const struct file *file, struct records *records)
 {
     struct place place = {file->path, 0};
-    struct text rest = {(const char *)file->bytes, file->len}, line, fields[COLUMNS_MAX];
+    struct text rest = text_of(file), line, fields[COLUMNS_MAX];
     bool header = false;
     while (take(&rest, '\n', &line)) {
         place.line++;

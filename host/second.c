@@ -1,5 +1,5 @@
 /*
- * The independent second program: compares the archive with document 01 by
+ * The independent second program: compares the archive with docs/RULES.md by
  * definition, on the paper's cases by hand and on many seeded inputs.
  *
  *   second [INPUTS [SEED]]
@@ -280,21 +280,10 @@ static bool run(struct input *in, struct lent_buffers *buffers, uint64_t inputs,
     return never == 0;
 }
 
-static uint64_t number_argument(const char *text)
-{
-    char *end;
-    uint64_t number = strtoull(text, &end, 10);
-    if (*text < '0' || *text > '9' || *end != '\0') {
-        fprintf(stderr, "second: \"%s\" isn't a number\nusage: second [INPUTS [SEED]]\n", text);
-        exit(2);
-    }
-    return number;
-}
-
 int main(int argc, char **argv)
 {
-    uint64_t inputs = argc > 1 ? number_argument(argv[1]) : DEFAULT_INPUTS;
-    uint64_t seed = argc > 2 ? number_argument(argv[2]) : DEFAULT_SEED;
+    uint64_t inputs = argc > 1 ? number_argument("second", argv[1]) : DEFAULT_INPUTS;
+    uint64_t seed = argc > 2 ? number_argument("second", argv[2]) : DEFAULT_SEED;
     struct lent_buffers buffers = {lent_room(TASK_ROOM), lent_room(SLOTS_ROOM), lent_room(REPLY_ROOM),
                                    lent_room(MARKS_ROOM)};
     struct lent slots = lent_room(SLOTS_ROOM);

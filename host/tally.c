@@ -21,6 +21,12 @@ static bool wide(uint64_t value, uint64_t least, uint64_t most)
     return value > UINT32_MAX && low >= least && low <= most;
 }
 
+static void note_edge(struct tally *tally, uint64_t w, enum edge_use use, bool met)
+{
+    for (size_t i = 0; i < WHEEL_EDGES && use < EDGE_USES; i++)
+        tally->edges[i][use] += met && w == wheel_edges[i];
+}
+
 /* ---- tasks ---- */
 
 static void add_table(struct tally *tally, const struct task *task, const struct input *input)
@@ -49,10 +55,6 @@ static void add_accepted(struct tally *tally, const struct task *task)
     note(tally, WHOLE_TURNS, task->h % task->w == 0 && task->w > 1);
     note(tally, NEED_OVER_D, task->e > task->D);
     note(tally, LEAST_WHEEL, task->w == 1);
-    note(tally, WHEEL_256, task->w >= 255 && task->w <= 257);
-    note(tally, WHEEL_2048, task->w >= 2047 && task->w <= 2049);
-    note(tally, WHEEL_4096, task->w >= 4095 && task->w <= 4097);
-    note(tally, MOST_WHEEL, task->w == WHEEL_MAX);
     note(tally, MOST_NEED, task->e == NEED_MAX);
     note(tally, MOST_PERIOD, task->h == PERIOD_MAX);
     note(tally, MOST_DEADLINE, task->D == PERIOD_MAX);
@@ -81,6 +83,7 @@ static void add_judged(struct tally *tally, const struct task *task, const struc
     note(tally, LONG_REPLY, input->reply_len == ANSWER_BYTES + 1);
     note(tally, LARGE_WHEEL, task->w > WHEEL_MAX / 2 && some);
     note(tally, MANY_STRIPS, task->k > STRIPS_MAX / 2 && some);
+    note_edge(tally, task->w, edge_use_of(task), verdict->worst > 0);
 }
 
 static void add_counted(struct tally *tally, const struct task *task, const struct input *input, uint64_t count)
@@ -88,6 +91,7 @@ static void add_counted(struct tally *tally, const struct task *task, const stru
     note(tally, COUNTED_SOME, count > 0 && count < task->k);
     note(tally, COUNTED_ODD, count > 0 && input->offset % 2 == 1);
     note(tally, LAST_OFFSET, input->offset + 1 == 2 * (uint64_t)task->w);
+    note_edge(tally, task->w, EDGE_COUNT, count > 0);
 }
 
 static void add_sizes(struct tally *tally, const struct input *input, uint32_t number)
@@ -178,6 +182,7 @@ static void add_granted(struct tally *tally, const struct input *input, const st
     note(tally, GRANT_PAST_TAKEN, granted_past_taken(expected->marks, input->marks_len));
     note(tally, GRANT_64, input->marks_len == SLOTS_MAX);
     note(tally, GRANT_16384, input->marks_len * input->v == WHEEL_MAX);
+    note_edge(tally, input->marks_len * input->v, EDGE_GRANT, granted > 0);
 }
 
 static void add_bad_grid(struct tally *tally, const struct input *input)
@@ -224,7 +229,7 @@ void tally_add(struct tally *tally, const struct input *input, const struct expe
         add_task(tally, input, expected, number);
 }
 
-/* The numbers each call knows, by document 01. */
+/* The numbers each call knows, by docs/RULES.md. */
 static bool knows(enum kind kind, uint32_t number)
 {
     switch (kind) {
@@ -237,11 +242,8 @@ static bool knows(enum kind kind, uint32_t number)
     }
 }
 
-unsigned tally_print(const struct tally *tally)
+static unsigned print_numbers(const struct tally *tally)
 {
-#define CLASS_TEXT(id, text) text,
-    static const char *const texts[] = {CLASSES(CLASS_TEXT)};
-#undef CLASS_TEXT
     unsigned never = 0;
     printf("%-8s %10s %10s %10s\n", "refusal", "judge", "count", "grant");
     for (uint32_t number = 0; number < NUMBERS; number++) {
@@ -255,6 +257,31 @@ unsigned tally_print(const struct tally *tally)
         }
         printf("\n");
     }
+    return never;
+}
+
+/* Each wheel at an edge, with something dropped or granted: judged with few strips, and with 64 slots and many strips; counted; granted. */
+static unsigned print_edges(const struct tally *tally)
+{
+    unsigned never = 0;
+    printf("%-8s %10s %10s %10s %10s %10s\n", "wheel", "k to 4", "64, to 255", "64, k 256+", "count", "grant");
+    for (size_t i = 0; i < WHEEL_EDGES; i++) {
+        printf("%-8" PRIu32, wheel_edges[i]);
+        for (enum edge_use use = EDGE_FEW; use < EDGE_USES; use++) {
+            printf(" %10" PRIu64, tally->edges[i][use]);
+            never += tally->edges[i][use] == 0;
+        }
+        printf("\n");
+    }
+    return never;
+}
+
+unsigned tally_print(const struct tally *tally)
+{
+#define CLASS_TEXT(id, text) text,
+    static const char *const texts[] = {CLASSES(CLASS_TEXT)};
+#undef CLASS_TEXT
+    unsigned never = print_numbers(tally) + print_edges(tally);
     for (unsigned i = 0; i < CLASS_COUNT; i++) {
         printf("%10" PRIu64 "  %s%s\n", tally->met[i], texts[i], tally->met[i] == 0 ? "  NEVER MET" : "");
         never += tally->met[i] == 0;

@@ -40,10 +40,6 @@ struct expected {
     X(WHOLE_TURNS, "accepted: h a multiple of w")                                                                      \
     X(NEED_OVER_D, "accepted: e above D")                                                                              \
     X(LEAST_WHEEL, "accepted: w 1")                                                                                    \
-    X(WHEEL_256, "accepted: w 255 to 257")                                                                             \
-    X(WHEEL_2048, "accepted: w 2,047 to 2,049")                                                                        \
-    X(WHEEL_4096, "accepted: w 4,095 to 4,097")                                                                        \
-    X(MOST_WHEEL, "accepted: w 16,384")                                                                                \
     X(MOST_NEED, "accepted: e 1,000,000")                                                                              \
     X(MOST_PERIOD, "accepted: h 1,000,000")                                                                            \
     X(MOST_DEADLINE, "accepted: D 1,000,000")                                                                          \
@@ -104,6 +100,7 @@ enum input_class { CLASSES(CLASS_ID) CLASS_COUNT };
 
 struct tally {
     uint64_t numbers[KINDS][NUMBERS];
+    uint64_t edges[WHEEL_EDGES][EDGE_USES];
     uint64_t met[CLASS_COUNT];
 };
 

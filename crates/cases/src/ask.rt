@@ -1,5 +1,13 @@
 // A question to the judge, and a line with all that came back.
 use crate::build::Asked;
+use records::answer::Answer;
+
+// What stands behind the record in the reply buffer.
+const TAIL: usize = 8;
+
+const REPLY: usize = Answer::BYTES + TAIL;
+
+const SHORT: usize = Answer::BYTES - 1;
 
 // From a half tick: the drop count.
 pub fn count(name: &[u8], a: Asked, slots: &[u8], offset: u64) {
@@ -29,7 +37,7 @@ pub fn supply(name: &[u8], a: Asked, slots: &[u8], offset: u64) {
 }
 
 // The numbers of an answer record.
-fn record(reply: &[u8; 24]) {
+fn record(reply: &[u8; REPLY]) {
     crate::print::text(b"; id ");
     crate::print::number(octets::four(reply, 0) as u64);
     crate::print::text(b", number ");
@@ -43,10 +51,10 @@ fn record(reply: &[u8; 24]) {
 }
 
 // Whether the bytes behind the record are those that were there.
-fn tail(reply: &[u8; 24]) {
-    let before = [170u8; 8];
+fn tail(reply: &[u8; REPLY]) {
+    let before = [170u8; TAIL];
     let whole = &reply[..];
-    if check::same(&whole[16..], &before) {
+    if check::same(&whole[Answer::BYTES..], &before) {
         crate::print::text(b", tail kept");
     } else {
         crate::print::text(b", tail written");
@@ -55,8 +63,8 @@ fn tail(reply: &[u8; 24]) {
 
 // Judging, with a reply buffer that is longer than a record and full of 170.
 pub fn judge_bytes(name: &[u8], task: &[u8], slots: &[u8]) {
-    let before = [170u8; 24];
-    let mut reply = [170u8; 24];
+    let before = [170u8; REPLY];
+    let mut reply = [170u8; REPLY];
     let n = judge::judge(task, slots, &mut reply);
     crate::print::answer(b"judge ", name, n);
     if check::same(&reply, &before) {
@@ -76,8 +84,8 @@ pub fn judge(name: &[u8], a: Asked, slots: &[u8]) {
 // Judging with a reply buffer one byte short of a record.
 pub fn judge_short(name: &[u8], a: Asked, slots: &[u8]) {
     let task = crate::build::task(a);
-    let before = [170u8; 15];
-    let mut reply = [170u8; 15];
+    let before = [170u8; SHORT];
+    let mut reply = [170u8; SHORT];
     let n = judge::judge(&task, slots, &mut reply);
     crate::print::answer(b"judge ", name, n);
     if check::same(&reply, &before) {

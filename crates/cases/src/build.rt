@@ -1,5 +1,7 @@
 // Task and slot records from numbers.
 ghost use Prim.Native.Nat.{_<_};
+use records::Slot;
+use records::TaskRecord;
 
 // A task record's numbers, in its order.
 pub struct Asked {
@@ -40,13 +42,13 @@ fn four(x: u32) -> [u8; 4] {
     [byte(x, 1), byte(x, 256), byte(x, 65536), byte(x, 16777216)]
 }
 
-pub fn slot(start: u32, end: u32) -> [u8; 8] {
+pub fn slot(start: u32, end: u32) -> [u8; Slot::BYTES] {
     let s = four(start);
     let e = four(end);
     [s[0], s[1], s[2], s[3], e[0], e[1], e[2], e[3]]
 }
 
-pub fn two_slots(a: [u8; 8], b: [u8; 8]) -> [u8; 16] {
+pub fn two_slots(a: [u8; Slot::BYTES], b: [u8; Slot::BYTES]) -> [u8; 2 * Slot::BYTES] {
     [
         a[0],
         a[1],
@@ -67,7 +69,7 @@ pub fn two_slots(a: [u8; 8], b: [u8; 8]) -> [u8; 16] {
     ]
 }
 
-pub fn task(a: Asked) -> [u8; 32] {
+pub fn task(a: Asked) -> [u8; TaskRecord::BYTES] {
     let i = four(a.id);
     let w = four(a.w);
     let e = four(a.e);

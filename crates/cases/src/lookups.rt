@@ -1,12 +1,13 @@
-// Lookup on records whose 28 bytes behind the id say where they stand.
+// Lookup on records whose bytes behind the id say where they stand.
 use crate::print;
+use records::TaskRecord;
 
 // The site file ends in 20 bytes of a record.
-fn site() -> [u8; 84] {
+fn site() -> [u8; 2 * TaskRecord::BYTES + 20] {
     *b"\x01\0\0\0the site's first record of 1\x01\0\0\0the site's other record of 1\x03\0\0\0in a part record"
 }
 
-fn factory() -> [u8; 64] {
+fn factory() -> [u8; 2 * TaskRecord::BYTES] {
     *b"\x01\0\0\0the factory's record of id 1\x02\0\0\0the factory's record of id 2"
 }
 
@@ -19,7 +20,7 @@ fn lookup(id: u32) {
     print::text(b": ");
     print::number(found.len() as u64);
     print::text(b" bytes");
-    if found.len() == 32 {
+    if found.len() == TaskRecord::BYTES {
         print::text(b", ");
         print::text(&found[4..]);
     }

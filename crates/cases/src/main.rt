@@ -1,4 +1,4 @@
-// The cases of document 01 through the public calls, a line for each. The stored output says what must come back.
+// The cases of docs/RULES.md through the public calls, a line for each. The stored output says what must come back.
 mod ask;
 mod bounds;
 mod build;

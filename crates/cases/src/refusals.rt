@@ -2,6 +2,7 @@
 use crate::ask;
 use crate::build;
 use crate::build::Asked;
+use records::TaskRecord;
 
 // Both questions about one bad task on one slot (0,8).
 fn both(name: &[u8], a: Asked) {
@@ -12,8 +13,8 @@ fn both(name: &[u8], a: Asked) {
 }
 
 fn task_sizes() {
-    let short = [0u8; 31];
-    let long = [0u8; 33];
+    let short = [0u8; TaskRecord::BYTES - 1];
+    let long = [0u8; TaskRecord::BYTES + 1];
     ask::judge_bytes(b"31 zeros", &short, b"");
     ask::judge_bytes(b"33 zeros", &long, b"");
 }

@@ -1,4 +1,3 @@
+pub mod Along
 pub mod Windows
 pub mod Halves
-pub mod Maps
-pub mod Tasks

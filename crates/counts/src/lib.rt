@@ -1,97 +1,83 @@
-// Supply, drop and count at a half tick, and the drops at every tick, all from the running total of usable ticks.
-pub mod late;
-
+// Supply and the drop test at a half tick, from the runs of usable ticks alone: no buffer, and no walk along the wheel.
 ghost use mathlib.Core.Path.{_≡_};
 ghost use Prim.Native.Nat.{_*_, _/_, _≤_, _<_};
-ghost use lib.ListN.{length, getD};
-ghost use Rattle.limits.specs.Limits.{mostPeriod, mostStrips, asked};
-ghost use Rattle.rules.specs.Sums.{Subset, bit};
-ghost use Rattle.rules.specs.Supply.{supply, dropped, drops};
-ghost use Rattle.rules.specs.Worst.{Wheel};
-ghost use Rattle.ticks.specs.Total.{Upto};
-ghost use Rattle.counts.specs.Counts.{Total, Within};
+ghost use Rattle.limits.specs.Limits.{mostPeriod, asked, Within};
+ghost use Rattle.rules.specs.Sums.{Subset, number};
+ghost use Rattle.rules.specs.Supply.{supply, dropped};
+ghost use Rattle.runs.specs.Runs.{Laid, Runs};
 use limits::Task;
 
-// A total as a number. Its bound is stated here once.
-fn wide(x: u16) -> usize
-    ensures { λ r. ⌜ (r ≡ x) × (r < 65536) ⌝ }
+// The usable ticks below tick x of the wheel. Run i isn't usable, the next one is.
+pub fn below(runs: &[u16], w: usize, x: usize) -> usize
+    requires { ⌜ Runs (now runs) w × (x ≤ w) ⌝ }
+    ensures { λ r. ⌜ (r ≤ x) × ((u : Subset) → Laid (now (runs .entry)) w u → r ≡ number u x) ⌝ }
 {
-    x as usize
-}
-
-// The usable ticks below tick x.
-pub fn below(total: &[u16], x: usize) -> usize
-    requires { ⌜ x < length (now total) ⌝ }
-    ensures { λ r. ⌜ (r ≡ getD (now (total .entry)) x 0) × (r < 65536) ⌝ }
-{
-    wide(total[x])
+    let mut passed = 0;
+    let mut i = 0;
+    while i < runs.len() {
+        let from = runs::end(runs, w, i);
+        if x <= from {
+            return passed;
+        }
+        let to = runs::end(runs, w, i + 1);
+        if x <= to {
+            return passed + (x - from);
+        }
+        passed += to - from;
+        i += 2;
+    }
+    passed
 }
 
 // The usable ticks of the whole turns that d ticks take in.
-pub fn turned(total: &[u16], w: usize, d: usize) -> usize
-    requires { ⌜ Total (now total) w × (d ≤ mostPeriod) ⌝ }
-    ensures { λ r. ⌜ (r ≡ d / w * getD (now (total .entry)) w 0) × (r ≤ d) ⌝ }
+pub fn turned(runs: &[u16], w: usize, d: usize) -> usize
+    requires { ⌜ Runs (now runs) w × (d ≤ mostPeriod) ⌝ }
+    ensures { λ r. ⌜ (r ≤ d) × ((u : Subset) → Laid (now (runs .entry)) w u → r ≡ d / w * number u w) ⌝ }
 {
-    d / w * below(total, w)
+    if d < w {
+        return 0;
+    }
+    d / w * below(runs, w, w)
 }
 
 // The usable ticks of r ticks from tick a, less than a turn, which may run over the wheel's end.
-fn rest(total: &[u16], w: usize, a: usize, r: usize) -> usize
-    requires { ⌜ Total (now total) w × (a < w) × (r < w) ⌝ }
-    ensures { λ s. ⌜ (s ≤ r) × ((u : Subset) → Wheel w u → Upto (now (total .entry)) w u → s ≡ supply 1 u r a) ⌝ }
+fn rest(runs: &[u16], w: usize, a: usize, r: usize) -> usize
+    requires { ⌜ Runs (now runs) w × (a < w) × (r < w) ⌝ }
+    ensures { λ s. ⌜ (s ≤ r) × ((u : Subset) → Laid (now (runs .entry)) w u → s ≡ supply 1 u r a) ⌝ }
 {
-    let gone = below(total, a);
+    let gone = below(runs, w, a);
     let end = a + r;
     if end <= w {
-        return below(total, end) - gone;
+        return below(runs, w, end) - gone;
     }
-    below(total, w) - gone + below(total, end - w)
+    below(runs, w, w) - gone + below(runs, w, end - w)
 }
 
 // The supply of a strip at tick a of the wheel: whole turns, and the rest of the deadline.
-pub fn window(total: &[u16], w: usize, a: usize, d: usize) -> usize
-    requires { ⌜ Total (now total) w × (a < w) × (d ≤ mostPeriod) ⌝ }
-    ensures { λ r. ⌜ (r ≤ d) × ((u : Subset) → Wheel w u → Upto (now (total .entry)) w u → r ≡ supply 1 u d a) ⌝ }
+fn window(runs: &[u16], w: usize, a: usize, d: usize) -> usize
+    requires { ⌜ Runs (now runs) w × (a < w) × (d ≤ mostPeriod) ⌝ }
+    ensures { λ r. ⌜ (r ≤ d) × ((u : Subset) → Laid (now (runs .entry)) w u → r ≡ supply 1 u d a) ⌝ }
 {
-    turned(total, w, d) + rest(total, w, a, d % w)
+    turned(runs, w, d) + rest(runs, w, a, d % w)
 }
 
-// The supply at half tick x, in half ticks.
-pub fn supply(total: &[u16], w: usize, x: usize, d: usize) -> usize
-    requires { ⌜ Total (now total) w × (x < 2 * w) × (d ≤ mostPeriod) ⌝ }
-    ensures { λ r. ⌜ (r ≤ 2 * d) × ((u : Subset) → Wheel w u → Upto (now (total .entry)) w u → r ≡ supply 2 u d x) ⌝ }
+// The supply at half tick x, in half ticks (rule 2).
+pub fn supply(runs: &[u16], w: usize, x: usize, d: usize) -> usize
+    requires { ⌜ Runs (now runs) w × (x < 2 * w) × (d ≤ mostPeriod) ⌝ }
+    ensures { λ r. ⌜ (r ≤ 2 * d) × ((u : Subset) → Laid (now (runs .entry)) w u → r ≡ supply 2 u d x) ⌝ }
 {
     let a = x / 2;
-    let here = window(total, w, a, d);
+    let here = window(runs, w, a, d);
     if x % 2 == 0 {
         return here + here;
     }
-    here + window(total, w, (a + 1) % w, d)
+    here + window(runs, w, (a + 1) % w, d)
 }
 
-// 1 where a strip at half tick x is dropped, 0 where it is painted.
-fn drop_at(total: &[u16], w: usize, x: usize, task: Task) -> usize
-    requires { ⌜ Total (now total) w × (x < 2 * w) × Within task ⌝ }
-    ensures { λ r. ⌜ (r ≤ 1) × ((u : Subset) → Wheel w u → Upto (now (total .entry)) w u → r ≡ bit (dropped 2 u (asked task) x)) ⌝ }
+// Whether a strip at half tick x is dropped (rule 3).
+pub fn dropped(runs: &[u16], w: usize, x: usize, task: Task) -> bool
+    requires { ⌜ Runs (now runs) w × (x < 2 * w) × Within task ⌝ }
+    ensures { λ r. ⌜ ((u : Subset) → Laid (now (runs .entry)) w u → r ≡ dropped 2 u (asked task) x) ⌝ }
 {
-    if supply(total, w, x, task.d) < 2 * task.e {
-        1
-    } else {
-        0
-    }
-}
-
-// How many of the first n strips from half tick x are dropped. Each strip's place on the wheel is a remainder.
-pub fn drops(total: &[u16], w: usize, x: usize, n: usize, task: Task) -> usize
-    requires { ⌜ Total (now total) w × (x < 2 * w) × Within task × (n ≤ mostStrips) ⌝ }
-    ensures { λ r. ⌜ (r ≤ n) × ((u : Subset) → Wheel w u → Upto (now (total .entry)) w u → r ≡ drops 2 u (asked task) n x) ⌝ }
-{
-    let step = 2 * task.h;
-    let mut dropped = 0;
-    let mut i = 0;
-    while i < n {
-        dropped += drop_at(total, w, (x + i * step) % (2 * w), task);
-        i += 1;
-    }
-    dropped
+    supply(runs, w, x, task.d) < 2 * task.e
 }

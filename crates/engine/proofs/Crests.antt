@@ -2,23 +2,22 @@
 --
 -- In order: a block; blocks; the place; the crest of the counts. Assumes nothing.
 use mathlib.Core.Path.{_≡_, refl, sym, _∙_}
-use mathlib.Core.Logic.{_⊎_, ⊎-elim}
-use mathlib.Core.List.{List}
+use mathlib.Core.Logic.{⊎-elim}
+use mathlib.Core.List.{List, _++_}
 use Prim.Native.Nat.{ℕ, _+_, _%_, _≤_, _<_}
-use native.Mathlib.Nat.{le-refl, le-of-suc-le-suc, eq-or-lt-of-le, mod-lt}
-use native.Mathlib.Numerals.{add-one}
+use native.Mathlib.Nat.{le-refl, mod-lt}
 use native.Mathlib.Omega.{arith}
-use lib.ListN.{length, getD}
-use Rattle.engine.specs.Strips.{behind, strips, Halves, Counted, Wheeled, Crest}
+use lib.ListN.{length, getD, take, drop}
+use lib.Seq.{take-at}
+use Rattle.maps.specs.Maps.{fallen, Top, Sized}
+use Rattle.maps.proofs.Strips.{strips-turns}
+use Rattle.engine.specs.Counts.{Counted, Wheeled}
 use Rattle.engine.specs.First.{Largest, Led, First}
-use Rattle.engine.specs.Late.{Sized}
-use Rattle.engine.proofs.Passes.{le-or-lt}
-use Rattle.engine.proofs.Counts.{strips-cong, halves-bits}
+use Rattle.rules.proofs.Sums.{le-or-lt}
+use Rattle.engine.proofs.Turns.{last-or-before}
+use Rattle.engine.proofs.Counts.{counted-one}
 
 -- ---- a block
-
-last-or-before : {i n : ℕ} → i < n + 1 → (i ≡ n) ⊎ (i < n)
-last-or-before l = eq-or-lt-of-le (le-of-suc-le-suc (rw add-one at l))
 
 pub largest-start : {x : List ℕ} {from to : ℕ} → from < to → Largest x from from to (getD x from 0)
 largest-start {from = from} l =
@@ -143,27 +142,29 @@ first-of g e =
 
 -- ---- the crest of the counts
 
--- The first largest of the counts that are kept is the crest of the counts after each tick of l.
+-- The first largest of the counts that are kept is the crest of the map. They are all of a list, or a part of one.
 pub crest-of :
-    {l z x : List ℕ} {h k m t : ℕ} → 0 < length l → Halves l z → Counted z h k x → First x m t → Crest l h k m t
-crest-of {l} {z} {x} {h} {k} {m} {t} some half c f =
-    let w : length x ≡ length l = c .as-long ∙ half .as-long in
-    let same : (i : ℕ) → i < length l → getD x i 0 ≡ strips (behind l) (length l) h k i =
-    λ i s.
-    c .at i (omega (arith, half .as-long))
-    ∙ rw (half .as-long) (strips-cong (λ a. getD z a 0) (behind l) (length l) h k i some (half .at)) in
+    {z x p : List ℕ} {h k s m t : ℕ} → Counted z (h % length z) k x s → p ≡ x → First p m t → Top z h k m t
+unfolding fallen
+crest-of {z} {x} {h = h} {k} {t = t} c part first =
+    let f : First x _ t = rw part at first in
+    let same : (i : ℕ) → i < length z → getD x i 0 ≡ fallen z h k i =
+    λ i s. c .at i s ∙ strips-turns (λ a. getD z a 0) (length z) h k i in
     record {
-      bound = λ i s. rw (same i s) at (f .bound i (omega arith));
-      inside = omega (arith, f .inside);
-      hit = sym (same t (omega (arith, f .inside))) ∙ f .hit;
-      least = λ i s. rw (same i (omega (arith, f .inside))) at (f .least i s);
+      bound = λ i s. rw (same i s) at (f .bound i (omega (arith, c .as-long)));
+      inside = omega (arith, c .as-long, f .inside);
+      hit = sym (same t (omega (arith, c .as-long, f .inside))) ∙ f .hit;
+      least = λ i s. rw (same i (omega (arith, c .as-long, f .inside))) at (f .least i s);
     }
 
-pub wheeled-of : {l z : List ℕ} {h k : ℕ} → Sized l h k → Halves l z → Wheeled z (h % length l)
-wheeled-of {h = h} sized half =
-    let step = mod-lt h (sized .some) in
-    record {
-      step = omega (arith, half .as-long);
-      most = omega (arith, sized .most, half .as-long);
-      bits = halves-bits half;
-    }
+-- The map itself counts one strip.
+pub crest-one : {z : List ℕ} {h k m t : ℕ} → k ≡ 1 → 0 < length z → First z m t → Top z h k m t
+crest-one {z} {h} e some f = rw e (crest-of (counted-one (mod-lt h some)) refl f)
+
+-- The counts, put over the start of a buffer d, are as long as the wheel.
+pub part-length :
+    {z x : List ℕ} {h k s : ℕ} (d : List ℕ) → Counted z h k x s → length z ≡ length (take (length z) (x ++ drop (length z) d))
+part-length {z} {x} d c = sym (rw (take-at x (drop (length z) d) (length z) (c .as-long)) (c .as-long))
+
+pub wheeled-of : {z : List ℕ} {h k : ℕ} → Sized z h k → Wheeled z (h % length z)
+wheeled-of {h = h} sized = record { step = mod-lt h (sized .some); most = sized .most; bits = sized .bits }

@@ -1,5 +1,4 @@
 -- In the order in which they build on each other.
-pub mod Passes
+pub mod Turns
 pub mod Counts
-pub mod Offsets
 pub mod Crests

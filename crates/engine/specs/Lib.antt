@@ -1,6 +1,4 @@
--- What is handed over and answered (Late); then how it is counted: along the wheel (Strips), in passes (Pass), and the
--- first largest (First).
-pub mod Late
-pub mod Strips
-pub mod Pass
+-- Two lists added (Turn), counts of strips made so (Counts), and the first largest of them (First).
+pub mod Turn
+pub mod Counts
 pub mod First

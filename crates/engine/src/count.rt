@@ -1,64 +1,30 @@
-// The drops of k strips from half a tick after every tick, by doubling: the counts of k come from those of k / 2.
-// Each answers how far round the wheel the k strips take, which is the next turn.
+// The drops of k strips from every tick, by doubling: an even k is twice its half, an odd one its half doubled and one
+// strip more. The two buffers change places at each step. The result is how far round the wheel the k strips take.
+use crate::BYTE_END;
 use crate::turn;
-ghost use mathlib.Core.Path.{_≡_};
-ghost use Prim.Native.Nat.{_-_, _%_, _≤_, _<_};
-ghost use lib.ListN.{length};
-ghost use Rattle.engine.specs.Strips.{Wheeled, Counted, Round};
+ghost use Prim.Native.Nat.{_≤_, _<_};
+ghost use Rattle.limits.specs.Limits.{mostStrips};
+ghost use Rattle.engine.specs.Turn.{byteEnd};
+ghost use Rattle.engine.specs.Counts.{Wheeled, Counted, AsLong};
 
-// The last of an odd number of strips.
-fn odd(half: &[u8], here: &mut [u8], h: usize, k: usize, s: usize) -> usize
-    requires { ⌜ Wheeled (now half) h ⌝ }
-    requires { ⌜ Counted (now half) h (k - k % 2) (now here) ⌝ }
-    requires { ⌜ Round (now half) h (k - k % 2) s ⌝ }
-    requires { ⌜ k < 256 ⌝ }
-    ensures { λ _. ⌜ Counted (now (half .entry)) h k (now (here .exit)) ⌝ }
-    ensures { λ r. ⌜ Round (now (half .entry)) h k r ⌝ }
+pub fn bytes(map: &[u8], here: &mut [u8], there: &mut [u8], h: usize, k: usize) -> usize
+    requires { ⌜ Wheeled (now map) h × (2 ≤ k) × (k < byteEnd) × AsLong (now map) (now here) (now there) ⌝ }
+    ensures { λ s. ⌜ Counted (now (map .entry)) h k (now (here .exit)) s ⌝ }
 {
+    if k == 2 {
+        return turn::turned(here, map, map, h, h);
+    }
     if k % 2 == 1 {
-        turn::one_more(here, half, s);
-        return turn::onward(s, h, half.len());
+        let s = bytes(map, there, here, h, k - 1);
+        return turn::turned(here, there, map, s, h);
     }
-    s
-}
-
-fn odd_words(half: &[u8], here: &mut [u16], h: usize, k: usize, s: usize) -> usize
-    requires { ⌜ Wheeled (now half) h ⌝ }
-    requires { ⌜ Counted (now half) h (k - k % 2) (now here) ⌝ }
-    requires { ⌜ Round (now half) h (k - k % 2) s ⌝ }
-    requires { ⌜ k ≤ 1024 ⌝ }
-    ensures { λ _. ⌜ Counted (now (half .entry)) h k (now (here .exit)) ⌝ }
-    ensures { λ r. ⌜ Round (now (half .entry)) h k r ⌝ }
-{
-    if k % 2 == 1 {
-        turn::one_more_words(here, half, s);
-        return turn::onward(s, h, half.len());
-    }
-    s
-}
-
-// The two buffers change places at each halving of k.
-pub fn bytes(half: &[u8], here: &mut [u8], there: &mut [u8], h: usize, k: usize) -> usize
-    requires { ⌜ Wheeled (now half) h ⌝ }
-    requires { ⌜ (length (now here) ≡ length (now half)) × (length (now there) ≡ length (now half)) ⌝ }
-    requires { ⌜ (2 ≤ k) × (k < 256) ⌝ }
-    ensures { λ _. ⌜ Counted (now (half .entry)) h k (now (here .exit)) ⌝ }
-    ensures { λ r. ⌜ Round (now (half .entry)) h k r ⌝ }
-{
-    if k < 4 {
-        turn::double(here, half, h);
-        let s = turn::onward(h, h, half.len());
-        return odd(half, here, h, k, s);
-    }
-    let n = bytes(half, there, here, h, k / 2);
-    turn::double(here, there, n);
-    let s = turn::onward(n, n, half.len());
-    odd(half, here, h, k, s)
+    let s = bytes(map, there, here, h, k / 2);
+    turn::turned(here, there, there, s, s)
 }
 
 // Bytes as long as the counts fit them, 16 bits after that.
 pub fn words(
-    half: &[u8],
+    map: &[u8],
     low: &mut [u8],
     spare: &mut [u8],
     here: &mut [u16],
@@ -66,21 +32,17 @@ pub fn words(
     h: usize,
     k: usize,
 ) -> usize
-    requires { ⌜ Wheeled (now half) h ⌝ }
-    requires { ⌜ (length (now low) ≡ length (now half)) × (length (now spare) ≡ length (now half)) ⌝ }
-    requires { ⌜ (length (now here) ≡ length (now half)) × (length (now there) ≡ length (now half)) ⌝ }
-    requires { ⌜ (256 ≤ k) × (k ≤ 1024) ⌝ }
-    ensures { λ _. ⌜ Counted (now (half .entry)) h k (now (here .exit)) ⌝ }
-    ensures { λ r. ⌜ Round (now (half .entry)) h k r ⌝ }
+    requires { ⌜ Wheeled (now map) h × (byteEnd ≤ k) × (k ≤ mostStrips) × AsLong (now map) (now low) (now spare) × AsLong (now map) (now here) (now there) ⌝ }
+    ensures { λ s. ⌜ Counted (now (map .entry)) h k (now (here .exit)) s ⌝ }
 {
-    if k < 512 {
-        let n = bytes(half, low, spare, h, k / 2);
-        turn::double_wide(here, low, n);
-        let s = turn::onward(n, n, half.len());
-        return odd_words(half, here, h, k, s);
+    if k % 2 == 1 {
+        let s = words(map, low, spare, there, here, h, k - 1);
+        return turn::turned_bits(here, there, map, s, h);
     }
-    let n = words(half, low, spare, there, here, h, k / 2);
-    turn::double_words(here, there, n);
-    let s = turn::onward(n, n, half.len());
-    odd_words(half, here, h, k, s)
+    if k / 2 < BYTE_END {
+        let s = bytes(map, low, spare, h, k / 2);
+        return turn::turned_wide(here, low, low, s, s);
+    }
+    let s = words(map, low, spare, there, here, h, k / 2);
+    turn::turned_words(here, there, there, s, s)
 }

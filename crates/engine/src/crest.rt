@@ -1,14 +1,10 @@
-// The largest count, and the first tick half a tick after which it is met.
+// The largest count, and the first tick that has it.
 // Blocks are searched for their largest count by straight loops; only one block is then looked through for the place.
+use maps::Crest;
 ghost use mathlib.Core.Path.{_≡_};
 ghost use Prim.Native.Nat.{_≤_, _<_};
 ghost use lib.ListN.{length};
 ghost use Rattle.engine.specs.First.{Largest, Led, First};
-
-pub struct Crest {
-    pub drops: u32,
-    pub at: usize,
-}
 
 const BLOCK: usize = 256;
 

@@ -1,29 +1,53 @@
-// The worst count and offset of a wheel.
-mod buffers;
+// The worst of a map of drops by doubling: strips from every tick of the wheel are counted at once.
 mod count;
 mod crest;
-mod judge;
-mod offset;
 mod pass;
 mod turn;
 
-ghost use Rattle.engine.specs.Late.{Sized, Peaks};
+use maps::Crest;
+ghost use mathlib.Core.Path.{_≡_};
+ghost use Prim.Native.Nat.{_+_, _≤_, _<_};
+ghost use Rattle.maps.specs.Maps.{Top, Sized};
+ghost use Rattle.engine.specs.Turn.{byteEnd};
+ghost use Rattle.engine.specs.Counts.{lack};
 
-// How many of the k strips are dropped at worst, and the smallest half tick from which they are.
-pub struct Peak {
-    pub drops: u32,
-    pub offset: u32,
+// Counts below it fit a byte.
+pub const BYTE_END: usize = 256;
+
+// The buffers are lent in any state.
+pub fn by_bytes(map: &[u8], here: &mut [u8], there: &mut [u8], h: usize, k: usize) -> Crest
+    requires { ⌜ Sized (now map) h k × (0 < k) × (k < byteEnd) × (lack (now map) (now here) (now there) ≡ 0) ⌝ }
+    ensures { λ r. ⌜ Top (now (map .entry)) h k (r .drops) (r .at) ⌝ }
+{
+    if k == 1 {
+        return crest::of_bytes(map);
+    }
+    let w = map.len();
+    count::bytes(map, &mut here[..w], &mut there[..w], h % w, k);
+    crest::of_bytes(&here[..w])
 }
 
-pub fn worst(late: &[u8], h: usize, k: usize) -> Peak
-    requires { ⌜ Sized (now late) h k ⌝ }
-    ensures { λ r. ⌜ Peaks (now (late .entry)) h k (r .drops) (r .offset) ⌝ }
+pub fn by_words(
+    map: &[u8],
+    low: &mut [u8],
+    spare: &mut [u8],
+    here: &mut [u16],
+    there: &mut [u16],
+    h: usize,
+    k: usize,
+) -> Crest
+    requires { ⌜ Sized (now map) h k × (byteEnd ≤ k) × (lack (now map) (now low) (now spare) + lack (now map) (now here) (now there) ≡ 0) ⌝ }
+    ensures { λ r. ⌜ Top (now (map .entry)) h k (r .drops) (r .at) ⌝ }
 {
-    if k == 0 {
-        return Peak {
-            drops: 0,
-            offset: 0,
-        };
-    }
-    buffers::fitting(late, h, k)
+    let w = map.len();
+    count::words(
+        map,
+        &mut low[..w],
+        &mut spare[..w],
+        &mut here[..w],
+        &mut there[..w],
+        h % w,
+        k,
+    );
+    crest::of_words(&here[..w])
 }

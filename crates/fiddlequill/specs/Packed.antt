@@ -1,4 +1,4 @@
--- Document 01: a result of two numbers goes to C as one 64-bit number. Definitions only.
+-- docs/RULES.md: a result of two numbers goes to C as one 64-bit number. Definitions only.
 --
 --     packed n x       refusal number n and the other number x
 --     PackedGrant ..   a whole grant call whose result is packed

@@ -74,7 +74,22 @@ fn bad() {
     );
 }
 
+// A folder in place of a file opens, and reading it fails.
+fn unreadable() {
+    folder(
+        b"bad-tasks-folder\n",
+        b"bad-tasks-folder/tasks.bin",
+        b"bad-tasks-folder/slots.bin",
+    );
+    folder(
+        b"bad-slots-folder\n",
+        b"bad-slots-folder/tasks.bin",
+        b"bad-slots-folder/slots.bin",
+    );
+}
+
 fn main() {
     good();
     bad();
+    unreadable();
 }

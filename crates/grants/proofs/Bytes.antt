@@ -14,7 +14,7 @@ use borrow.Author.Tests.{eq-eqb, ne-eqb, lt-ltb, le-ltb}
 use Rattle.rules.specs.Sums.{Subset, bit, any, number}
 use Rattle.rules.specs.Grant.{first}
 use Rattle.rules.proofs.Sums.{le-or-lt, any-intro, bit-le, number-none, number-more}
-use Rattle.ticks.specs.Total.{freeOf}
+use Rattle.ticks.specs.Ticks.{freeOf}
 use Rattle.grants.specs.Grants.{Marked}
 
 -- ---- a test over the places passed

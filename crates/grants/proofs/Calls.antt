@@ -1,72 +1,27 @@
 -- The refusals of a grant, and each way out of a whole call. Assumes nothing.
-use mathlib.Core.Path.{_≡_, refl, _∙_}
-use mathlib.Core.Logic.{inl, inr}
+use mathlib.Core.Path.{_≡_, refl, sym, ap₂, _∙_}
+use mathlib.Core.Logic.{inl, inr, ⊎-elim}
 use mathlib.Core.Bool.{Bool, true, false}
 use mathlib.Core.List.{List}
-use Prim.Native.Nat.{ℕ, zero, suc, _*_, _≤_, _<_}
-use native.Mathlib.Nat.{zero-lt-suc, mul-pos}
+use Prim.Native.Nat.{ℕ, zero, suc, _≤_}
 use native.Mathlib.Omega.{arith}
-use lib.Dec.{lit≤}
-use lib.ListN.{length}
-use borrow.Author.Tests.{ltb-false, eqb-false}
+use lib.Dec.{lit≤, ltb}
+use lib.ListN.{length, getD}
+use Rattle.rules.specs.Sums.{any}
 use Rattle.rules.specs.Grant.{Granted, NoChoice}
-use Rattle.limits.specs.Refusal.{_when_, _otherwise_, ifNone}
-use Rattle.limits.specs.Limits.{gridRefusal, taskRefusal, taskRefusalOf, madeTask, madeGrid, taskNumber, gridNumber, mostGranted, mostTicks, asked}
+use Rattle.limits.specs.Refusal.{_when_, _otherwise_}
+use Rattle.limits.specs.Limits.{gridRefusal, taskRefusal, madeTask, madeGrid, taskOf, asked, Within}
 use Rattle.limits.specs.declared.Task.{Task}
 use Rattle.limits.specs.declared.Grid.{Grid}
 use Rattle.limits.specs.declared.TaskMade.the-variants as taskMade
 use Rattle.limits.specs.declared.GridMade.the-variants as gridMade
-use Rattle.limits.proofs.Refusals.{both-none, when-none, when-true, when-false, or-false, inside}
-use Rattle.counts.proofs.Tasks.{Accepted, accepted}
-use Rattle.ticks.specs.Total.{freeOf}
-use Rattle.grants.specs.Grants.{badMark, grantRefusal, Marked, GrantCall}
+use Rattle.limits.proofs.Refusals.{at-first, at-next, both-none, when-true, when-false, made-is, refused-is, either}
+use Rattle.limits.proofs.Made.{never, grid-made, grid-refused, task-made, task-refused, grid-within, task-within}
+use Rattle.ticks.specs.Ticks.{freeOf}
+use Rattle.grants.specs.Grants.{badMark, grantRefusal, checked, Gridded, Marked, GrantCall}
+use Rattle.grants.specs.declared.Checked.the-variants.{Good, Refused}
 
--- ---- what a constructor answers has the number of its refusal
-
-pub task-number : (t : Task) → taskNumber (madeTask t) ≡ taskRefusalOf t
-unfolding taskNumber madeTask ifNone
-task-number t = go (taskRefusalOf t)
-  where
-    go : (n : ℕ) → taskNumber (ifNone n (taskMade.Made t) (taskMade.Refused n)) ≡ n
-    go zero = refl
-    go (suc n) = refl
-
-pub grid-number : (g : Grid) → gridNumber (madeGrid g) ≡ gridRefusal (g .n) (g .v)
-unfolding gridNumber madeGrid ifNone
-grid-number g = go (gridRefusal (g .n) (g .v))
-  where
-    go : (n : ℕ) → gridNumber (ifNone n (gridMade.Made g) (gridMade.Refused n)) ≡ n
-    go zero = refl
-    go (suc n) = refl
-
--- ---- what no refusal means
-
-pub record Handed (l : List ℕ) (v : ℕ) (t : Task) : Type 0 where
-  pub some : 0 < length l * v
-  pub most : length l * v ≤ mostTicks
-  pub number : length l ≤ mostGranted
-  pub task : Accepted t
-
-abbrev refusalOf : List ℕ → ℕ → Task → ℕ
-refusalOf l v t = grantRefusal l v (t .e) (t .d) (t .h) (t .m) (t .k)
-
-pub handed : (l : List ℕ) (v : ℕ) (t : Task) → refusalOf l v t ≡ 0 → Handed l v t
-unfolding grantRefusal gridRefusal taskRefusalOf
-handed l v t e =
-    let grid = both-none _ _ e in
-    let marks = both-none _ _ (grid .1) in
-    let parts = or-false _ _ (when-none 12 _ (zero-lt-suc 11) (grid .0)) in
-    let first = or-false _ _ (parts .0) in
-    let slots = inside (length l) mostGranted (first .0) in
-    let n : ¬ (v ≡ 0) = eqb-false v 0 (first .1) in
-    record {
-      some = mul-pos (slots .0) (omega arith);
-      most = ltb-false _ _ (parts .1);
-      number = slots .1;
-      task = accepted t (marks .1);
-    }
-
--- ---- no refusal of the input is 13
+-- ---- no refusal of the input is 13: each is at most 12
 
 low-when : (n : ℕ) (t : Bool) → n ≤ 12 → (n when t) ≤ 12
 low-when n true l = rw (when-true n true refl) l
@@ -77,55 +32,119 @@ unfolding _otherwise_
 low-otherwise zero b p q = q
 low-otherwise (suc a) b p q = p
 
-low : (l : List ℕ) (v : ℕ) (t : Task) → refusalOf l v t ≤ 12
-unfolding grantRefusal gridRefusal badMark taskRefusal
-low l v t =
-    low-otherwise _ _ (low-when 12 _ (lit≤ tt))
-    (low-otherwise _ _ (low-when 12 _ (lit≤ tt))
-    (low-otherwise _ _ (low-when 6 _ (lit≤ tt))
-    (low-otherwise _ _ (low-when 7 _ (lit≤ tt))
-    (low-otherwise _ _ (low-when 8 _ (lit≤ tt)) (low-otherwise _ _ (low-when 9 _ (lit≤ tt)) (low-when 10 _ (lit≤ tt)))))))
+-- ---- what is checked, one law for each way out
 
--- ---- the ways out
+module _ (l : List ℕ) (v e D h m k : ℕ) where
+  pub check-grid : (n : ℕ) → madeGrid (length l) v ≡ gridMade.Refused n → Refused n ≡ checked l v e D h m k
+  unfolding checked grantRefusal
+  check-grid n q =
+      let p = grid-refused _ _ n q in
+      refused-is Refused _ (at-first _ _ _ (p .0) (p .1)) (p .1)
 
-module _ (l : List ℕ) (v : ℕ) (t : Task) where
-  abbrev Call : ℕ → ℕ → List ℕ → Type 0
-  Call n j after = GrantCall l v (t .e) (t .d) (t .h) (t .m) (t .k) n j after
+  module _ (g : Grid) (made : madeGrid (length l) v ≡ gridMade.Made g) where
+    pub check-marks : any (λ i. ltb 1 (getD l i 0)) (length l) ≡ true → Refused 12 ≡ checked l v e D h m k
+    unfolding checked grantRefusal badMark
+    check-marks bad =
+        let one : ¬ (_≡_ {A = ℕ} 12 0) = λ z. omega arith in
+        refused-is Refused _
+        (at-next _ _ _ (grid-made _ _ g made .0) (at-first _ _ _ (sym (when-true 12 _ bad)) one)) one
 
-  pub call-refused : (n : ℕ) → n ≡ refusalOf l v t → (n ≡ 0 → ⊥) → Call n 0 l
-  call-refused n e bad =
+    module _ (good : any (λ i. ltb 1 (getD l i 0)) (length l) ≡ false) where
+      pub check-task : (n : ℕ) → madeTask e D h m k ≡ taskMade.Refused n → Refused n ≡ checked l v e D h m k
+      unfolding checked grantRefusal badMark
+      check-task n q =
+          let p = task-refused _ _ _ _ _ n q in
+          refused-is Refused _
+          (at-next _ _ _ (grid-made _ _ g made .0) (at-next _ _ _ (when-false 12 _ good) (p .0))) (p .1)
+
+      pub check-good : (t : Task) → madeTask e D h m k ≡ taskMade.Made t → Good g t ≡ checked l v e D h m k
+      unfolding checked grantRefusal badMark
+      check-good t q =
+          let b = grid-made _ _ g made in
+          let p = task-made _ _ _ _ _ t q in
+          ap₂ Good (b .1) (p .1)
+          ∙ made-is _ _ (at-next _ _ _ (b .0) (at-next _ _ _ (when-false 12 _ good) (sym (p .0)))) refl
+
+  -- And back: what goes on had no refusal and is what was asked for; a refused call has its number.
+  pub record Asked (g : Grid) (t : Task) : Type 0 where
+    pub none : grantRefusal l v e D h m k ≡ 0
+    pub grid : g ≡ record { n = length l; v = v }
+    pub task : t ≡ taskOf e D h m k
+    pub gridded : Gridded l (g .v)
+    pub within : Within t
+
+  pub checked-good : (g : Grid) (t : Task) → checked l v e D h m k ≡ Good g t → Asked g t
+  unfolding checked grantRefusal
+  checked-good g t q =
+      ⊎-elim
+      (λ p.
+      let rest = both-none _ _ (p .0) in
+      let grid = grid-within (length l) v (rest .0) in
+      let same-grid : g ≡ record { n = length l; v = v } = cc in
+      let same-task : t ≡ taskOf e D h m k = cc in
       record {
-        refused = λ _. e;
-        outcome = λ z. absurd (bad (e ∙ z));
-        granted = λ z. absurd (bad z);
-        marked = λ z. absurd (bad z);
-        none = λ z. absurd (omega (arith, low l v t));
+        none = p .0;
+        grid = same-grid;
+        task = same-task;
+        gridded = rw same-grid (record { some = grid .ticks; most = grid .most; number = grid .number });
+        within = rw same-task (task-within e D h m k (both-none _ _ (rest .1) .1));
+      })
+      (λ p. never (cc))
+      (either _ _ _ q)
+
+  pub checked-refused : (n : ℕ) → checked l v e D h m k ≡ Refused n → (n ≡ grantRefusal l v e D h m k) × (n ≡ 0 → ⊥)
+  unfolding checked
+  checked-refused n q = ⊎-elim (λ p. never (cc)) (λ p. (cc, λ z. p .0 (cc))) (either _ _ _ q)
+
+  -- ---- the ways out
+
+  low : grantRefusal l v e D h m k ≤ 12
+  unfolding grantRefusal gridRefusal badMark taskRefusal
+  low =
+      low-otherwise _ _ (low-when 12 _ (lit≤ tt))
+      (low-otherwise _ _ (low-when 12 _ (lit≤ tt))
+      (low-otherwise _ _ (low-when 6 _ (lit≤ tt))
+      (low-otherwise _ _ (low-when 7 _ (lit≤ tt))
+      (low-otherwise _ _ (low-when 8 _ (lit≤ tt)) (low-otherwise _ _ (low-when 9 _ (lit≤ tt)) (low-when 10 _ (lit≤ tt)))))))
+
+  pub call-refused : (n : ℕ) → checked l v e D h m k ≡ Refused n → GrantCall l v e D h m k n 0 l
+  call-refused n q =
+      let p = checked-refused n q in
+      record {
+        refused = λ _. p .0;
+        outcome = λ z. absurd (p .1 (p .0 ∙ z));
+        granted = λ z. absurd (p .1 z);
+        marked = λ z. absurd (p .1 z);
+        none = λ z. absurd (omega (arith, p .0, low));
         nothing = λ _. refl;
         kept = λ _. refl;
       }
 
-  pub call-none : refusalOf l v t ≡ 0 → NoChoice (length l) v (freeOf l) (asked t) → Call 13 0 l
-  call-none good no-choice =
-      record {
-        refused = λ bad. absurd (bad good);
-        outcome = λ _. inr refl;
-        granted = λ z. absurd (omega arith);
-        marked = λ z. absurd (omega arith);
-        none = λ _. no-choice;
-        nothing = λ _. refl;
-        kept = λ _. refl;
-      }
+  module _ (g : Grid) (t : Task) (good : checked l v e D h m k ≡ Good g t) where
+    pub call-none : NoChoice (length l) (g .v) (freeOf l) (asked t) → GrantCall l v e D h m k 13 0 l
+    call-none found =
+        let a = checked-good g t good in
+        record {
+          refused = λ bad. absurd (bad (a .none));
+          outcome = λ _. inr refl;
+          granted = λ z. absurd (omega arith);
+          marked = λ z. absurd (omega arith);
+          none = λ _. rw (a .grid, a .task) at found;
+          nothing = λ _. refl;
+          kept = λ _. refl;
+        }
 
-  pub call-granted :
-      refusalOf l v t ≡ 0 → (j : ℕ) (after : List ℕ) → Granted (length l) v (freeOf l) (asked t) j → Marked l j after
-      → Call 0 j after
-  call-granted good j after grant marks =
-      record {
-        refused = λ bad. absurd (bad good);
-        outcome = λ _. inl refl;
-        granted = λ _. grant;
-        marked = λ _. marks;
-        none = λ z. absurd (omega arith);
-        nothing = λ n. absurd (n refl);
-        kept = λ n. absurd (n refl);
-      }
+    pub call-granted :
+        (j : ℕ) (after : List ℕ) → Granted (length l) (g .v) (freeOf l) (asked t) j → Marked l j after
+        → GrantCall l v e D h m k 0 j after
+    call-granted j after found marks =
+        let a = checked-good g t good in
+        record {
+          refused = λ bad. absurd (bad (a .none));
+          outcome = λ _. inl refl;
+          granted = λ _. rw (a .grid, a .task) at found;
+          marked = λ _. marks;
+          none = λ z. absurd (omega arith);
+          nothing = λ n. absurd (n refl);
+          kept = λ n. absurd (n refl);
+        }

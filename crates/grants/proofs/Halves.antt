@@ -15,8 +15,9 @@ use Rattle.rules.specs.Grant.{first, gridTicks, Granted, NoChoice}
 use Rattle.rules.proofs.Sums.{any-none, number-const, number-le}
 use Rattle.rules.proofs.More.{firm-mono}
 use Rattle.rules.proofs.Grants.{grid-mono, first-mono, no-choice}
-use Rattle.ticks.specs.Total.{freeOf}
-use Rattle.grants.specs.Grants.{Halving}
+use Rattle.ticks.specs.Ticks.{freeOf}
+use Rattle.limits.specs.Limits.{mostGranted}
+use Rattle.grants.specs.Grants.{Gridded, Halving}
 
 module _ (l : List ℕ) (v : ℕ) (t : Task) where
   abbrev FirmAt : ℕ → Type 0
@@ -24,6 +25,9 @@ module _ (l : List ℕ) (v : ℕ) (t : Task) where
 
   pub more-firm : (i j : ℕ) → i ≤ j → FirmAt i → FirmAt j
   more-firm i j le firm = firm-mono _ _ t (grid-mono (length l) v _ _ (λ x _. first-mono (freeOf l) i j le x)) firm
+
+  pub halve-few : (low high : ℕ) → Gridded l v → Halving l v t low high → high ≤ mostGranted
+  halve-few low high g h = omega (arith, h .enough, g .number, number-le (freeOf l) (length l))
 
   pub halve-down : (low high mid : ℕ) → Halving l v t low high → low ≤ mid → mid ≤ high → FirmAt mid → Halving l v t low mid
   halve-down low high mid h a b firm =
@@ -38,13 +42,15 @@ module _ (l : List ℕ) (v : ℕ) (t : Task) where
         least = λ i less firm. not (more-firm i mid (omega arith) firm);
       }
 
-  pub halve-end : (j : ℕ) → Halving l v t j j → Granted (length l) v (freeOf l) t j
-  halve-end j h =
-      record {
-        enough = h .enough;
-        firm = h .firm;
-        smallest = λ i firm. let n : ¬ (i < j) = λ less. h .least i less firm in omega arith;
-      }
+  pub halve-end : (j : ℕ) → Halving l v t j j → Granted (length l) v (freeOf l) t j × (j ≤ length l)
+  halve-end j h = (
+    record {
+      enough = h .enough;
+      firm = h .firm;
+      smallest = λ i firm. let n : ¬ (i < j) = λ less. h .least i less firm in omega arith;
+    },
+    le-trans (h .enough) (number-le (freeOf l) (length l)),
+  )
 
   -- ---- m 0, and no slots
 
@@ -75,28 +81,28 @@ module _ (l : List ℕ) (v : ℕ) (t : Task) where
       omega (arith, mul-zero (1 * t .D)) in
       lt-ltb _ _ less
 
-  pub no-slots : 0 < t .e → 0 < t .m → t .m ≤ t .k → FirmAt 0 → ⊥
-  unfolding Firm count drops bit
-  no-slots need some few firm =
-      let all : number (λ i. dropped 1 (gridTicks (length l) v (first (freeOf l) 0)) t (0 + i * (1 * t .h))) (t .k) ≡ t .k * 1 =
-      number-const _ true (t .k) (λ i less. empty-drops need (0 + i * (1 * t .h))) in
-      omega (arith, firm 1 0 (omega arith), mul-one (t .k))
-
-  -- ---- the start of the search
-
-  pub halve-start :
-      (all : ℕ) → all ≡ number (freeOf l) (length l) → 0 < all → 0 < t .e → 0 < t .m → t .m ≤ t .k → FirmAt all → Halving l v t 1 all
-  halve-start all e some need m few firm =
-      record {
-        order = some;
-        enough = omega arith;
-        firm = firm;
-        least = λ i less f. no-slots need m few (more-firm i 0 (omega arith) f);
-      }
-
-  pub none-free : (all : ℕ) → all ≡ 0 → 0 < t .e → 0 < t .m → t .m ≤ t .k → FirmAt all → ⊥
-  none-free all z need m few firm = no-slots need m few (more-firm all 0 (omega arith) firm)
-
   pub nothing-firm : (all : ℕ) → all ≡ number (freeOf l) (length l) → (FirmAt all → ⊥) → NoChoice (length l) v (freeOf l) t
   nothing-firm all e not =
       no-choice (length l) v (freeOf l) t (λ firm. not (more-firm _ all (omega arith) firm))
+
+  -- ---- the start of the search
+
+  module _ (need : 0 < t .e) (some : 0 < t .m) (few : t .m ≤ t .k) where
+    no-slots : FirmAt 0 → ⊥
+    unfolding Firm count drops bit
+    no-slots firm =
+        let all : number (λ i. dropped 1 (gridTicks (length l) v (first (freeOf l) 0)) t (0 + i * (1 * t .h))) (t .k) ≡ t .k * 1 =
+        number-const _ true (t .k) (λ i less. empty-drops need (0 + i * (1 * t .h))) in
+        omega (arith, firm 1 0 (omega arith), mul-one (t .k))
+
+    pub halve-start : (all : ℕ) → all ≡ number (freeOf l) (length l) → 0 < all → FirmAt all → Halving l v t 1 all
+    halve-start all e any-free firm =
+        record {
+          order = any-free;
+          enough = omega arith;
+          firm = firm;
+          least = λ i less f. no-slots (more-firm i 0 (omega arith) f);
+        }
+
+    pub none-free : (all : ℕ) → all ≡ number (freeOf l) (length l) → all ≡ 0 → NoChoice (length l) v (freeOf l) t
+    none-free all e z = nothing-firm all e (λ firm. no-slots (more-firm all 0 (omega arith) firm))

@@ -5,7 +5,7 @@ ghost use mathlib.Core.Bool.{cond, _&&_};
 ghost use lib.Dec.{eqb, ltb};
 ghost use lib.ListN.{length, getD};
 ghost use Rattle.rules.specs.Sums.{any, number};
-ghost use Rattle.ticks.specs.Total.{freeOf};
+ghost use Rattle.ticks.specs.Ticks.{freeOf};
 ghost use Rattle.grants.specs.Grants.{Marked};
 
 // Whether some mark is neither 0 nor 1.

@@ -1,3 +1,2 @@
-pub mod Accepts
 pub mod Replies
-pub mod Looks
+pub mod Gates

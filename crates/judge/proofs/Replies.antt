@@ -1,4 +1,4 @@
--- Each way out of judging gives the reply that document 01 names. Assumes nothing.
+-- Each way out of judging gives the reply that docs/RULES.md names. Assumes nothing.
 use mathlib.Core.Path.{_≡_, refl, sym, ap, subst, _∙_}
 use mathlib.Core.Logic.{_⊎_, ⊎-elim}
 use mathlib.Core.List.{List}
@@ -18,10 +18,11 @@ use Rattle.records.specs.Refusals.{sizes, room, bodyRefusal, judgeRefusal, jobO
 use Rattle.records.specs.declared.TaskRecord.{TaskRecord}
 use Rattle.records.specs.declared.Job.{Job}
 use Rattle.records.specs.declared.Checked.the-variants.{Accepted, Refused}
-use Rattle.records.proofs.Parts.{sizes-one, checked-accepted, checked-refused}
-use Rattle.judge.specs.Jobs.{Good, jobTicks}
+use Rattle.records.proofs.Parts.{sizes-one}
+use Rattle.records.proofs.Checks.{checked-accepted, checked-refused}
+use Rattle.records.specs.Jobs.{jobTicks}
 use Rattle.judge.specs.Judge.{Judged}
-use Rattle.judge.proofs.Accepts.{good-job, body-high}
+use Rattle.records.proofs.Accepts.{body-high}
 
 -- ---- rule 7's bit
 
@@ -79,21 +80,16 @@ module _ (task slots reply : List ℕ) where
           answered = λ z. absurd (bad .1 z);
         }
 
-    pub reply-good : (j : Job) → checked r slots ≡ Accepted j → Good slots j
-    reply-good j c =
-        let ok = checked-accepted r slots j c in
-        rw (ok .1) (good-job r slots (ok .0))
-
     pub reply-answered :
         (j : Job) (f c o : ℕ) (after : List ℕ) → checked r slots ≡ Accepted j
-        → Worst (j .w) (jobTicks slots j) (asked (j .task)) c o → f ≡ bit (firmTest (asked (j .task)) c)
+        → Worst (j .wheel .w) (jobTicks slots j) (asked (j .task)) c o → f ≡ bit (firmTest (asked (j .task)) c)
         → after ≡ over (answerBytes (r .id) 0 f c o) reply → Judged task slots reply 0 after
     unfolding ticksOf boardOf
     reply-answered j f c o after a worst firm written =
         let ok = checked-accepted r slots j a in
         let job : j ≡ jobOf (taskRecord task) = ok .1 ∙ ap jobOf e in
         let here : Worst (taskRecord task .w) (ticksOf (taskRecord task) slots) (askedOf (taskRecord task)) c o =
-        subst (λ (x : Job). Worst (x .w) (jobTicks slots x) (asked (x .task)) c o) job worst in
+        subst (λ (x : Job). Worst (x .wheel .w) (jobTicks slots x) (asked (x .task)) c o) job worst in
         record {
           number = body 0 (sym (ok .0));
           silent = λ low. absurd (not-low 0 low (λ l. absurd (omega arith)));

@@ -1,4 +1,4 @@
--- Document 01, judging: what is returned and what the reply holds afterwards, for every byte string. Definitions only.
+-- docs/RULES.md, judging: what is returned and what the reply holds afterwards, for every byte string. Definitions only.
 --
 --     Answered t l reply after      the accepted task's answer: demand 3 of the bytes that were written
 --     Judged t l reply n after      a whole call: task t, slots l, reply before and after, refusal number n

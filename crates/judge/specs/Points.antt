@@ -1,4 +1,4 @@
--- Document 01, the questions at a half tick x: supply, drop test and count. Definitions only.
+-- docs/RULES.md, the questions at a half tick x: supply, drop test and count. Definitions only.
 --
 --     suppliedAt t l x    the supply in half ticks, 0 beside a refusal
 --     droppedAt t l x     dropped or not, "not dropped" beside a refusal

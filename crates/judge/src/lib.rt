@@ -1,6 +1,6 @@
 // The public questions of a task record and a slot buffer. Every byte string gets its reply: bad records are refused by number, in document
 // 01's order, and a refusal writes only what the paper names.
-mod peak;
+mod jobs;
 mod point;
 
 ghost use mathlib.Core.Path.{_≡_};
@@ -18,6 +18,7 @@ use crate::point::Gate;
 use limits::Task;
 use records::Checked;
 use records::answer::Answer;
+use room::MOST_EDGES;
 
 pub struct Supplied {
     pub number: u32,
@@ -46,7 +47,7 @@ fn firm(task: Task, drops: u32) -> u32
     }
 }
 
-// Writes an answer over the first 16 reply bytes.
+// Writes an answer over the first bytes of the reply.
 fn write(reply: &mut [u8], a: Answer)
     requires { ⌜ replyBytes ≤ length (now reply) ⌝ }
     ensures { λ _. ⌜ now (reply .exit) ≡ over (answerBytes (a .id) (a .number) (a .firm) (a .drops) (a .offset)) (now (reply .entry)) ⌝ }
@@ -63,7 +64,7 @@ pub fn judge(task: &[u8], slots: &[u8], reply: &mut [u8]) -> u32
     if n != 0 {
         return n;
     }
-    if reply.len() < 16 {
+    if reply.len() < Answer::BYTES {
         return 2;
     }
     let r = records::read(task);
@@ -83,7 +84,8 @@ pub fn judge(task: &[u8], slots: &[u8], reply: &mut [u8]) -> u32
             bad
         }
         Checked::Accepted(job) => {
-            let p = peak::peak(slots, job);
+            let mut runs = [0u16; MOST_EDGES];
+            let p = jobs::worst(slots, job, &mut runs);
             let f = firm(job.task, p.drops);
             write(
                 reply,
@@ -110,10 +112,11 @@ pub fn supply(task: &[u8], slots: &[u8], offset: u64) -> Supplied
             supply: 0,
         },
         Gate::Open(job) => {
-            let seen = point::look(slots, job, offset as usize, 0);
+            let mut runs = [0u16; MOST_EDGES];
+            let found = jobs::supply(slots, job, offset as usize, &mut runs);
             Supplied {
                 number: 0,
-                supply: seen.supply as u64,
+                supply: found as u64,
             }
         }
     }
@@ -129,10 +132,10 @@ pub fn drop_test(task: &[u8], slots: &[u8], offset: u64) -> Tested
             dropped: false,
         },
         Gate::Open(job) => {
-            let seen = point::look(slots, job, offset as usize, 1);
+            let mut runs = [0u16; MOST_EDGES];
             Tested {
                 number: 0,
-                dropped: seen.drops == 1,
+                dropped: jobs::dropped(slots, job, offset as usize, &mut runs),
             }
         }
     }
@@ -148,11 +151,10 @@ pub fn count(task: &[u8], slots: &[u8], offset: u64) -> Counted
             count: 0,
         },
         Gate::Open(job) => {
-            let asked = job.task;
-            let seen = point::look(slots, job, offset as usize, asked.k);
+            let mut runs = [0u16; MOST_EDGES];
             Counted {
                 number: 0,
-                count: seen.drops as u32,
+                count: jobs::count(slots, job, offset as usize, &mut runs),
             }
         }
     }

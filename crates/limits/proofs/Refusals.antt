@@ -1,5 +1,6 @@
 -- The laws of `when`, `otherwise` and `ifNone`, by which every refusal is proved to be the first that applies. Assumes nothing.
 use mathlib.Core.Path.{_≡_, refl, sym, ap, _∙_}
+use mathlib.Core.Logic.{_⊎_, inl, inr}
 use mathlib.Core.Bool.{Bool, true, false, _||_}
 use Prim.Native.Nat.{ℕ, zero, suc, _*_, _^_, _≤_, _<_}
 use native.Mathlib.Omega.{arith}
@@ -7,10 +8,7 @@ use native.Mathlib.Nat.{mul-le-mul, le-of-eq}
 use lib.Dec.{ltb, eqb}
 use borrow.Author.Tests.{eqb-false, ltb-true, ltb-false, lt-ltb, eq-eqb, ne-eqb}
 use Rattle.limits.specs.Refusal.{_when_, _otherwise_, ifNone}
-use Rattle.limits.specs.Limits.{outside, gridRefusal, mostGranted, mostTicks, wheelRefusal, madeWheel, wheelNumber, taskRefusalOf, madeTask}
-use Rattle.limits.specs.declared.WheelMade.the-variants as wheelMade
-use Rattle.limits.specs.declared.TaskMade.the-variants as taskMade
-use Rattle.limits.specs.declared.Task.{Task}
+use Rattle.limits.specs.Limits.{outside, gridRefusal, mostGranted, mostTicks}
 
 pub when-true : (n : ℕ) (t : Bool) → t ≡ true → (n when t) ≡ n
 unfolding _when_
@@ -36,6 +34,13 @@ at-first a b x e n = e ∙ sym (otherwise-some a b (λ z. n (e ∙ z)))
 pub at-next : (a b x : ℕ) → a ≡ 0 → x ≡ b → x ≡ (a otherwise b)
 at-next a b x e f = f ∙ sym (otherwise-none a b e)
 
+-- Calls that were given equal parts gave the whole.
+pub when-same : (n : ℕ) {x : ℕ} {s t : Bool} → x ≡ (n when s) → s ≡ t → x ≡ (n when t)
+when-same n e f = e ∙ ap (λ b. n when b) f
+
+pub otherwise-same : {x a b c d : ℕ} → x ≡ (a otherwise b) → a ≡ c → b ≡ d → x ≡ (c otherwise d)
+otherwise-same {x} {a} {b} {c} {d} e f g = e ∙ ap (λ n. n otherwise b) f ∙ ap (λ n. c otherwise n) g
+
 -- No refusal at all means that neither part gives one.
 pub both-none : (a b : ℕ) → (a otherwise b) ≡ 0 → (a ≡ 0) × (b ≡ 0)
 unfolding _otherwise_
@@ -57,6 +62,19 @@ unfolding ifNone
 none-right zero a b h = absurd (h refl)
 none-right (suc n) a b h = refl
 
+-- An answer that holds a value where the number is 0, and else is the number's own.
+pub made-is : {A : Type 0} (a b : A) {n m : ℕ} → n ≡ m → n ≡ 0 → a ≡ ifNone m a b
+made-is a b {n} {m} e z = sym (none-left m a b (sym e ∙ z))
+
+pub refused-is : {A : Type 0} (f : ℕ → A) (a : A) {n m : ℕ} → n ≡ m → (n ≡ 0 → ⊥) → f n ≡ ifNone m a (f m)
+refused-is f a {n} {m} e bad = ap f e ∙ sym (none-right m a (f m) (λ z. bad (e ∙ z)))
+
+-- What `ifNone` gives tells which of the two it was.
+pub either : {A : Type 0} (n : ℕ) (a b : A) {x : A} → ifNone n a b ≡ x → ((n ≡ 0) × (a ≡ x)) ⊎ ((n ≡ 0 → ⊥) × (b ≡ x))
+unfolding ifNone
+either zero a b e = inl (refl, e)
+either (suc n) a b e = inr (λ z. omega arith, e)
+
 pub or-false : (a b : Bool) → (a || b) ≡ false → (a ≡ false) × (b ≡ false)
 or-false true b e = absurd (let z : _≡_ {A = ℕ} 0 1 = cc in omega arith)
 or-false false b e = (refl, e)
@@ -76,33 +94,6 @@ outside-zero x most e = eq-eqb x 0 e ∙ sym (ap (λ b. b || ltb most x) (eq-eqb
 pub outside-above : (x most : ℕ) → (x ≡ 0 → ⊥) → ltb most x ≡ outside x most
 unfolding outside
 outside-above x most n = sym (ap (λ b. b || ltb most x) (ne-eqb x 0 n))
-
--- ---- what a constructor answers has the number of its refusal
-
-pub wheel-number : (w : ℕ) → wheelNumber (madeWheel w) ≡ wheelRefusal w
-unfolding wheelNumber madeWheel ifNone
-wheel-number w = go (wheelRefusal w)
-  where
-    go : (n : ℕ) → wheelNumber (ifNone n (wheelMade.Made (record { w = w })) (wheelMade.Refused n)) ≡ n
-    go zero = refl
-    go (suc n) = refl
-
--- A task that was made had no refusal and is the one asked for; a refused one has its number.
-pub task-made : (t x : Task) → madeTask t ≡ taskMade.Made x → (taskRefusalOf t ≡ 0) × (x ≡ t)
-unfolding madeTask ifNone
-task-made t x = go (taskRefusalOf t)
-  where
-    go : (n : ℕ) → ifNone n (taskMade.Made t) (taskMade.Refused n) ≡ taskMade.Made x → (n ≡ 0) × (x ≡ t)
-    go zero e = (refl, cc)
-    go (suc n) e = absurd (let z : _≡_ {A = ℕ} 0 1 = cc in omega arith)
-
-pub task-refused : (t : Task) (m : ℕ) → madeTask t ≡ taskMade.Refused m → (m ≡ taskRefusalOf t) × (m ≡ 0 → ⊥)
-unfolding madeTask ifNone
-task-refused t m = go (taskRefusalOf t)
-  where
-    go : (n : ℕ) → ifNone n (taskMade.Made t) (taskMade.Refused n) ≡ taskMade.Refused m → (m ≡ n) × (m ≡ 0 → ⊥)
-    go zero e = absurd (let z : _≡_ {A = ℕ} 0 1 = cc in omega arith)
-    go (suc n) e = let f : m ≡ suc n = cc in (f, λ z. omega arith)
 
 -- ---- a grant's wheel, tested part by part
 

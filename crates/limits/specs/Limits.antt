@@ -1,19 +1,19 @@
--- Document 01, refusals 4, 6 to 10 and the size of a grant's wheel in 12, with the bounds they go by. Definitions only.
+-- docs/RULES.md, refusals 4, 6 to 10 and the size of a grant's wheel in 12, with the bounds they go by. Definitions only.
 --
 --     outside x most              x is 0 or above most
 --     wheelRefusal w              4 for a bad wheel
 --     taskRefusal e D h m k       6 to 10, the first that applies
 --     gridRefusal N v             12 for a bad number or length of slots
---     made..                      what a constructor answers: the value, or the number of the refusal
---     ..Number                    the refusal number of such an answer, 0 for a value
+--     taskOf e D h m k            the task of these numbers
+--     made..                      what a constructor answers to these numbers: the value, or the number of the refusal
 --     asked t                     the rules' task of a task that was made
+--     Within t                    what the refusals 6 to 10 have shown of a task that was made
 use mathlib.Core.Bool.{Bool, _||_}
-use Prim.Native.Nat.{ℕ, _*_}
+use Prim.Native.Nat.{ℕ, _*_, _≤_, _<_}
 use lib.Dec.{ltb, eqb}
 use Rattle.rules.specs.Supply as rules
 use Rattle.limits.specs.Refusal.{_when_, _otherwise_, ifNone}
 use Rattle.limits.specs.declared.Task.{Task}
-use Rattle.limits.specs.declared.Grid.{Grid}
 use Rattle.limits.specs.declared.WheelMade.{WheelMade}
 use Rattle.limits.specs.declared.TaskMade.{TaskMade}
 use Rattle.limits.specs.declared.GridMade.{GridMade}
@@ -23,6 +23,9 @@ use Rattle.limits.specs.declared.GridMade.the-variants as gridMade
 
 abbrev pub mostTicks : ℕ
 mostTicks = 16384
+
+abbrev pub mostSlots : ℕ
+mostSlots = 64
 
 abbrev pub mostNeed : ℕ
 mostNeed = 1000000
@@ -53,29 +56,27 @@ taskRefusal e D h m k =
 unfoldable pub gridRefusal : ℕ → ℕ → ℕ
 gridRefusal N v = 12 when (outside N mostGranted || eqb v 0 || ltb mostTicks (N * v))
 
+abbrev pub taskOf : ℕ → ℕ → ℕ → ℕ → ℕ → Task
+taskOf e D h m k = record { e = e; d = D; h = h; m = m; k = k }
+
 unfoldable pub madeWheel : ℕ → WheelMade
 madeWheel w = ifNone (wheelRefusal w) (wheelMade.Made (record { w = w })) (wheelMade.Refused (wheelRefusal w))
 
-unfoldable pub taskRefusalOf : Task → ℕ
-taskRefusalOf t = taskRefusal (t .e) (t .d) (t .h) (t .m) (t .k)
+unfoldable pub madeTask : ℕ → ℕ → ℕ → ℕ → ℕ → TaskMade
+madeTask e D h m k =
+    ifNone (taskRefusal e D h m k) (taskMade.Made (taskOf e D h m k)) (taskMade.Refused (taskRefusal e D h m k))
 
-unfoldable pub madeTask : Task → TaskMade
-madeTask t = ifNone (taskRefusalOf t) (taskMade.Made t) (taskMade.Refused (taskRefusalOf t))
-
-unfoldable pub madeGrid : Grid → GridMade
-madeGrid g = ifNone (gridRefusal (g .n) (g .v)) (gridMade.Made g) (gridMade.Refused (gridRefusal (g .n) (g .v)))
-
-unfoldable pub wheelNumber : WheelMade → ℕ
-wheelNumber (wheelMade.Made w) = 0
-wheelNumber (wheelMade.Refused n) = n
-
-unfoldable pub taskNumber : TaskMade → ℕ
-taskNumber (taskMade.Made t) = 0
-taskNumber (taskMade.Refused n) = n
-
-unfoldable pub gridNumber : GridMade → ℕ
-gridNumber (gridMade.Made g) = 0
-gridNumber (gridMade.Refused n) = n
+unfoldable pub madeGrid : ℕ → ℕ → GridMade
+madeGrid N v = ifNone (gridRefusal N v) (gridMade.Made (record { n = N; v = v })) (gridMade.Refused (gridRefusal N v))
 
 abbrev pub asked : Task → rules.Task
 asked t = record { e = t .e; D = t .d; h = t .h; m = t .m; k = t .k }
+
+pub record Within (t : Task) : Type 0 where
+  pub asks : 0 < t .e
+  pub need : t .e ≤ mostNeed
+  pub deadline : t .d ≤ mostPeriod
+  pub period : t .h ≤ mostPeriod
+  pub some : 0 < t .k
+  pub strips : t .k ≤ mostStrips
+  pub painted : t .m ≤ t .k

@@ -1,4 +1,4 @@
--- A refusal is a number, 0 for none. Two operators write document 01's table as it reads. Definitions only.
+-- A refusal is a number, 0 for none. Two operators write the table of refusals as it reads. Definitions only.
 --
 --     n when test      n where the test passes, 0 where it fails
 --     a otherwise b    the first of the two that isn't 0: a is checked before b

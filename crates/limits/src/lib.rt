@@ -1,7 +1,7 @@
-// The bounds of wheel, task and grant, each a constant of what it limits, with constructors that refuse. A refusal is document 01's number.
+// The bounds of wheel, task and grant, each a constant of what it limits, with constructors that refuse. A refusal is its number in docs/RULES.md.
 ghost use mathlib.Core.Path.{_≡_};
 ghost use Rattle.limits.specs.Refusal.{_when_, _otherwise_};
-ghost use Rattle.limits.specs.Limits.{outside, wheelRefusal, taskRefusalOf, gridRefusal, madeWheel, madeTask, madeGrid};
+ghost use Rattle.limits.specs.Limits.{outside, wheelRefusal, taskRefusal, gridRefusal, madeWheel, madeTask, madeGrid};
 
 // A wheel that was accepted.
 pub struct Wheel {
@@ -90,27 +90,24 @@ impl Task {
 
     pub const MOST_STRIPS: usize = 1024;
 
-    fn refusal(t: Task) -> u32
-        ensures { λ r. ⌜ r ≡ taskRefusalOf t ⌝ }
+    fn refusal(e: usize, d: usize, h: usize, m: usize, k: usize) -> u32
+        ensures { λ r. ⌜ r ≡ taskRefusal e d h m k ⌝ }
     {
-        let last = first(
-            when(9, outside(t.k, Task::MOST_STRIPS)),
-            when(10, t.k < t.m),
-        );
-        let deadline = first(when(8, outside(t.d, t.h)), last);
+        let last = first(when(9, outside(k, Task::MOST_STRIPS)), when(10, k < m));
+        let deadline = first(when(8, outside(d, h)), last);
         first(
-            when(6, outside(t.e, Task::MOST_NEED)),
-            first(when(7, outside(t.h, Task::MOST_PERIOD)), deadline),
+            when(6, outside(e, Task::MOST_NEED)),
+            first(when(7, outside(h, Task::MOST_PERIOD)), deadline),
         )
     }
 
-    // The task as it is, or the first of the refusals 6 to 10.
-    pub fn new(t: Task) -> TaskMade
-        ensures { λ r. ⌜ r ≡ madeTask t ⌝ }
+    // The task, or the first of the refusals 6 to 10.
+    pub fn new(e: usize, d: usize, h: usize, m: usize, k: usize) -> TaskMade
+        ensures { λ r. ⌜ r ≡ madeTask e d h m k ⌝ }
     {
-        let n = Task::refusal(t);
+        let n = Task::refusal(e, d, h, m, k);
         if n == 0 {
-            TaskMade::Made(t)
+            TaskMade::Made(Task { e, d, h, m, k })
         } else {
             TaskMade::Refused(n)
         }
@@ -121,11 +118,9 @@ impl Grid {
     pub const MOST_SLOTS: usize = 64;
 
     // The product is formed only where it can't wrap: a slot over the wheel's bound is refused before it.
-    fn refusal(g: Grid) -> u32
-        ensures { λ r. ⌜ r ≡ gridRefusal (g .n) (g .v) ⌝ }
+    fn refusal(n: usize, v: usize) -> u32
+        ensures { λ r. ⌜ r ≡ gridRefusal n v ⌝ }
     {
-        let n = g.n;
-        let v = g.v;
         if outside(n, Grid::MOST_SLOTS) {
             return 12;
         }
@@ -135,15 +130,15 @@ impl Grid {
         when(12, Wheel::MOST_TICKS < n * v)
     }
 
-    // The slots as they are, or refusal 12.
-    pub fn new(g: Grid) -> GridMade
-        ensures { λ r. ⌜ r ≡ madeGrid g ⌝ }
+    // The n slots of v ticks, or refusal 12.
+    pub fn new(n: usize, v: usize) -> GridMade
+        ensures { λ r. ⌜ r ≡ madeGrid n v ⌝ }
     {
-        let n = Grid::refusal(g);
-        if n == 0 {
-            GridMade::Made(g)
+        let bad = Grid::refusal(n, v);
+        if bad == 0 {
+            GridMade::Made(Grid { n, v })
         } else {
-            GridMade::Refused(n)
+            GridMade::Refused(bad)
         }
     }
 }

@@ -12,7 +12,7 @@ use lib.Dec.{ltb}
 use lib.ListN.{length, getD, length-append}
 use borrow.Author.Tests.{ltb-true, ltb-false, lt-ltb, le-ltb}
 use Rattle.octets.specs.Octets.{le2, le4}
-use Rattle.lines.specs.Lines.{glyph, digits, decimal, field, Put}
+use Rattle.lines.specs.Lines.{longestFour, longestTwo, glyph, digits, decimal, field, Put}
 use Rattle.lines.proofs.Texts.{put-then}
 
 small-or-long : (n : ℕ) → (n < 10) ⊎ (10 ≤ n)
@@ -83,12 +83,12 @@ put-more n l r p q = rw (decimal-more n l) (put-then r p q)
 
 -- Bytes are below 256, so four of them make ten digits at most, and two make five.
 module _ (l : List ℕ) (i : ℕ) (small : (j : ℕ) → Fits w8 (getD l j 0)) where
-  pub four-digits : length (decimal (le4 l i)) < 11
+  pub four-digits : length (decimal (le4 l i)) < longestFour
   four-digits =
       let short : le4 l i < 10000000000 = omega (arith, small i, small (i + 1), small (i + 2), small (i + 3)) in
       omega (arith, decimal-length 9 (le4 l i) short)
 
-  pub two-digits : length (decimal (le2 l i)) < 6
+  pub two-digits : length (decimal (le2 l i)) < longestTwo
   two-digits =
       let short : le2 l i < 100000 = omega (arith, small i, small (i + 1)) in
       omega (arith, decimal-length 4 (le2 l i) short)

@@ -10,9 +10,9 @@ use lib.Dec.{leb}
 use lib.ListN.{length, take, drop, set, take-append-drop, length-append, length-drop}
 use lib.Seq.{set-split, drop-drop, take-at, drop-at, length-take-le, take-all, drop-length}
 use borrow.Author.Tests.{not-true, not-false, eq-eqb, ne-eqb, leb-true, leb-false, le-leb, lt-leb}
-use Rattle.octets.specs.Octets.{le2, le4, over}
+use Rattle.octets.specs.Octets.{over}
 use Rattle.records.specs.Records.{replyBytes}
-use Rattle.lines.specs.Lines.{space, newline, longestLine, field, lineOf, placed, fitting, lineFor, Put}
+use Rattle.lines.specs.Lines.{longestLine, lineOf, placed, fitting, lineFor, Put}
 
 -- A sum that may not be formed is tested by the difference.
 pub fits-not : (n len at : ℕ) → len < n → false ≡ leb (at + n) len
@@ -97,19 +97,6 @@ pub line-whole :
     → Put (lineFor l b at) b at e d
 unfolding lineFor
 line-whole l b at s p = rw (eq-eqb (length l) replyBytes s) p
-
--- Five fields one behind the other are the line.
-pub line-fields :
-    (l : List ℕ) {b c₁ c₂ c₃ c₄ d : List ℕ} {at m₁ m₂ m₃ m₄ e : ℕ} → at ≤ length b
-    → Put (field (le4 l 0) space) b at m₁ c₁
-    → Put (field (le2 l 4) space) c₁ m₁ m₂ c₂
-    → Put (field (le2 l 6) space) c₂ m₂ m₃ c₃
-    → Put (field (le4 l 8) space) c₃ m₃ m₄ c₄
-    → Put (field (le4 l 12) newline) c₄ m₄ e d
-    → Put (lineOf l) b at e d
-unfolding lineOf
-line-fields l r id refusal firm count offset =
-    put-then r (put-then r (put-then r (put-then r id refusal) firm) count) offset
 
 pub part-room : (n : ℕ) (b : List ℕ) (at : ℕ) → at + n ≤ length b → n ≤ length (take (length b - at) (drop at b))
 part-room n b at l = rw (take-all (length b - at) (drop at b) (omega (arith, length-drop at b))) (omega (arith, length-drop at b))

@@ -1,19 +1,19 @@
--- Document 01, "The printed sheet": an answer record as a line of the sheet. Definitions only.
+-- docs/RULES.md, "The printed sheet": an answer record as a line of the sheet. Definitions only.
 --
 --     glyph d            the character of the digit d
 --     digits s n         n in decimal, s digits at most
 --     decimal n          n in decimal, no zero in front; 0 is "0"
 --     field n stop       n in decimal and the character behind it
 --     lineOf l           the line of the answer record l: id, refusal, firm, worst count, worst offset
---     refusedLine        the line of what isn't a whole record, "- 1 0 0 0"
+--     refusedLine        the line of what isn't a whole record, "- 1 0 0 0", refusedLong characters
 --     placed at a b      b with a put over its part that starts at place `at`; what stands before and behind stays
 --     fitting n t out at    t where n bytes fit into `out` from place `at` on, else nothing
---     lineFor l out at   the line that goes into `out` at `at`: none if l isn't 16 bytes or the longest line wouldn't fit
+--     lineFor l out at   the line that goes into `out` at `at`: none if l isn't an answer record or the longest line wouldn't fit
 --     Put t b at n a     t was put into b at place `at`: a is what b is then, n the place behind t
 use mathlib.Core.Path.{_≡_}
 use mathlib.Core.Bool.{cond}
 use mathlib.Core.List.{List, [], _∷_, _++_}
-use Prim.Native.Nat.{ℕ, zero, suc, _+_, _/_, _%_}
+use Prim.Native.Nat.{ℕ, zero, suc, _+_, _*_, _/_, _%_}
 use lib.Dec.{eqb, leb, ltb}
 use lib.ListN.{length, take, drop}
 use Rattle.octets.specs.Octets.{le2, le4, over}
@@ -26,8 +26,17 @@ abbrev pub newline : ℕ
 newline = 10
 
 -- Ten digits for four bytes, five for two, and the character behind each.
+abbrev pub longestFour : ℕ
+longestFour = 11
+
+abbrev pub longestTwo : ℕ
+longestTwo = 6
+
 abbrev pub longestLine : ℕ
-longestLine = 45
+longestLine = 3 * longestFour + 2 * longestTwo
+
+abbrev pub refusedLong : ℕ
+refusedLong = 10
 
 abbrev pub glyph : ℕ → ℕ
 glyph d = 48 + d

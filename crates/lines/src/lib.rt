@@ -6,14 +6,23 @@ ghost use lib.Dec.{leb};
 ghost use lib.ListN.{length};
 ghost use Rattle.octets.specs.Octets.{le2, le4};
 ghost use Rattle.records.specs.Records.{replyBytes};
-ghost use Rattle.lines.specs.Lines.{longestLine, decimal, field, lineOf, refusedLine, fitting, lineFor, Put};
+ghost use Rattle.lines.specs.Lines.{longestFour, longestTwo, longestLine, refusedLong};
+ghost use Rattle.lines.specs.Lines.{decimal, field, lineOf, refusedLine, fitting, lineFor, Put};
+use records::answer::Answer;
 
 const SPACE: u8 = 32;
 
 const NEWLINE: u8 = 10;
 
 // Ten digits for four bytes, five for two, and the byte behind each.
-const LONGEST: usize = 45;
+const LONGEST_FOUR: usize = 11;
+
+const LONGEST_TWO: usize = 6;
+
+pub const LONGEST: usize = 3 * LONGEST_FOUR + 2 * LONGEST_TWO;
+
+// The line of what isn't a whole record.
+pub const REFUSED: usize = 10;
 
 fn byte(b: u8, out: &mut [u8], at: usize) -> usize
     requires { ⌜ at < length (now out) ⌝ }
@@ -56,16 +65,16 @@ fn fits(n: usize, len: usize, at: usize) -> bool
 
 // The number in four bytes of an answer record: ten digits at most, and the byte behind them.
 fn four(answer: &[u8], i: usize, stop: u8, out: &mut [u8], at: usize) -> usize
-    requires { ⌜ (i + 4 ≤ length (now answer)) × (at + 11 ≤ length (now out)) ⌝ }
-    ensures { λ r. ⌜ Put (field (le4 (now (answer .entry)) i) stop) (now (out .entry)) at r (now (out .exit)) × (r ≤ at + 11) ⌝ }
+    requires { ⌜ (i + 4 ≤ length (now answer)) × (at + longestFour ≤ length (now out)) ⌝ }
+    ensures { λ r. ⌜ Put (field (le4 (now (answer .entry)) i) stop) (now (out .entry)) at r (now (out .exit)) × (r ≤ at + longestFour) ⌝ }
 {
     stopped(octets::four(answer, i), stop, out, at)
 }
 
 // The number in two bytes: five digits at most.
 fn two(answer: &[u8], i: usize, stop: u8, out: &mut [u8], at: usize) -> usize
-    requires { ⌜ (i + 2 ≤ length (now answer)) × (at + 6 ≤ length (now out)) ⌝ }
-    ensures { λ r. ⌜ Put (field (le2 (now (answer .entry)) i) stop) (now (out .entry)) at r (now (out .exit)) × (r ≤ at + 6) ⌝ }
+    requires { ⌜ (i + 2 ≤ length (now answer)) × (at + longestTwo ≤ length (now out)) ⌝ }
+    ensures { λ r. ⌜ Put (field (le2 (now (answer .entry)) i) stop) (now (out .entry)) at r (now (out .exit)) × (r ≤ at + longestTwo) ⌝ }
 {
     stopped(octets::two(answer, i), stop, out, at)
 }
@@ -86,7 +95,7 @@ fn fields(answer: &[u8], out: &mut [u8], at: usize) -> usize
 pub fn line(answer: &[u8], out: &mut [u8], at: usize) -> usize
     ensures { λ r. ⌜ Put (lineFor (now (answer .entry)) (now (out .entry)) at) (now (out .entry)) at r (now (out .exit)) × (r ≤ at + longestLine) ⌝ }
 {
-    if answer.len() != 16 {
+    if answer.len() != Answer::BYTES {
         return at;
     }
     if !fits(LONGEST, out.len(), at) {
@@ -97,11 +106,11 @@ pub fn line(answer: &[u8], out: &mut [u8], at: usize) -> usize
 
 // The line of what isn't a whole record, or nothing where it doesn't fit.
 pub fn refused(out: &mut [u8], at: usize) -> usize
-    ensures { λ r. ⌜ Put (fitting 10 refusedLine (now (out .entry)) at) (now (out .entry)) at r (now (out .exit)) ⌝ }
+    ensures { λ r. ⌜ Put (fitting refusedLong refusedLine (now (out .entry)) at) (now (out .entry)) at r (now (out .exit)) ⌝ }
 {
-    if !fits(10, out.len(), at) {
+    if !fits(REFUSED, out.len(), at) {
         return at;
     }
     octets::put(&mut out[at..], b"- 1 0 0 0\n");
-    at + 10
+    at + REFUSED
 }

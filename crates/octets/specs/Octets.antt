@@ -1,4 +1,4 @@
--- Document 01, "Records": unsigned numbers in bytes, lowest byte first. Definitions only.
+-- docs/RULES.md, "Records": unsigned numbers in bytes, lowest byte first. Definitions only.
 --
 --     le2 l at, le4 l at    the number in the two or four bytes of l from place at on; a byte past the end counts 0
 --     bytes2 x, bytes4 x    the two or four bytes of x

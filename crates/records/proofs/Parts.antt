@@ -1,22 +1,18 @@
--- Refusals 1 and 3, tested part by part, and what a checked record is turned into. Assumes nothing.
+-- Refusals 1 and 3, tested part by part. Assumes nothing.
 use mathlib.Core.Path.{_≡_, refl, sym, ap, _∙_}
 use mathlib.Core.Bool.{Bool, true, false, not, _||_}
 use mathlib.Core.List.{List}
-use Prim.Native.Nat.{ℕ, zero, suc, _+_, _-_, _%_, _≤_, _<_}
+use Prim.Native.Nat.{ℕ, _+_, _-_, _%_, _≤_, _<_}
 use native.Mathlib.Nat.{zero-lt-suc}
 use native.Mathlib.Omega.{arith}
 use lib.Dec.{ltb, eqb}
 use lib.ListN.{length}
 use borrow.Author.Tests.{eq-eqb, ne-eqb, lt-ltb, eqb-true, not-false}
-use Rattle.limits.specs.Refusal.{_when_, ifNone}
-use Rattle.limits.proofs.Refusals.{none-right, when-true, when-false, when-none, or-false}
+use Rattle.limits.specs.Refusal.{_when_}
+use Rattle.limits.proofs.Refusals.{when-true, when-false, when-none, or-false}
 use Rattle.rules.proofs.Step.{ltb-same}
 use Rattle.records.specs.Records.{taskBytes, slotBytes}
-use Rattle.records.specs.Refusals.{sizes, bodyRefusal, jobOf, checked}
-use Rattle.records.specs.declared.TaskRecord.{TaskRecord}
-use Rattle.records.specs.declared.Job.{Job}
-use Rattle.records.specs.declared.Checked.{Checked}
-use Rattle.records.specs.declared.Checked.the-variants.{Accepted, Refused}
+use Rattle.records.specs.Refusals.{sizes}
 
 pub sizes-task : (t s : List ℕ) → (length t ≡ taskBytes → ⊥) → 1 ≡ sizes t s
 unfolding sizes _when_
@@ -42,27 +38,6 @@ pub range-rest :
     (first count total : ℕ) → count ≤ total → (3 when ltb (total - count) first) ≡ (3 when ltb total (first + count))
 range-rest first count total l =
     ap (λ b. 3 when b) (ltb-same (total - count) first total (first + count) (λ x. omega arith) (λ x. omega arith))
-
--- What is refused with the number of the refusal is what `checked` says.
-pub refused-is : (n m : ℕ) (a : Checked) → n ≡ m → (n ≡ 0 → ⊥) → Refused n ≡ ifNone m a (Refused m)
-refused-is n m a e bad = ap Refused e ∙ sym (none-right m a (Refused m) (λ z. bad (e ∙ z)))
-
--- And back: an accepted record has no refusal and is the job asked for; a refused one has its number.
-pub checked-accepted : (r : TaskRecord) (l : List ℕ) (j : Job) → checked r l ≡ Accepted j → (bodyRefusal r l ≡ 0) × (j ≡ jobOf r)
-unfolding checked ifNone
-checked-accepted r l j = go (bodyRefusal r l)
-  where
-    go : (n : ℕ) → ifNone n (Accepted (jobOf r)) (Refused n) ≡ Accepted j → (n ≡ 0) × (j ≡ jobOf r)
-    go zero e = (refl, cc)
-    go (suc n) e = absurd (let z : _≡_ {A = ℕ} 0 1 = cc in omega arith)
-
-pub checked-refused : (r : TaskRecord) (l : List ℕ) (m : ℕ) → checked r l ≡ Refused m → (m ≡ bodyRefusal r l) × (m ≡ 0 → ⊥)
-unfolding checked ifNone
-checked-refused r l m = go (bodyRefusal r l)
-  where
-    go : (n : ℕ) → ifNone n (Accepted (jobOf r)) (Refused n) ≡ Refused m → (m ≡ n) × (m ≡ 0 → ⊥)
-    go zero e = absurd (let z : _≡_ {A = ℕ} 0 1 = cc in omega arith)
-    go (suc n) e = let f : m ≡ suc n = cc in (f, λ z. omega arith)
 
 -- Refusal 1 is the only one that the sizes give.
 pub sizes-one : (t s : List ℕ) → (sizes t s ≡ 0 → ⊥) → sizes t s ≡ 1

@@ -42,8 +42,8 @@ sought-end f n i s l =
 
 -- ---- which file's part is handed back
 
--- The part as it is cut: from byte 32i to the 32nd behind it.
-cut-part : (l : List ℕ) (i : ℕ) → take (taskBytes * i + taskBytes - taskBytes * i) (drop (taskBytes * i) l) ≡ part l i
+-- A part is cut from its first byte to the one behind its last.
+pub cut-part : (l : List ℕ) (i : ℕ) → take (taskBytes * i + taskBytes - taskBytes * i) (drop (taskBytes * i) l) ≡ part l i
 unfolding part
 cut-part l i =
     let e : taskBytes * i + taskBytes - taskBytes * i ≡ taskBytes = omega arith in

@@ -1,3 +1,4 @@
 pub mod Records
 pub mod Refusals
+pub mod Jobs
 pub mod Lookup

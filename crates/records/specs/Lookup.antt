@@ -1,9 +1,9 @@
--- Document 01, "Lookup". Definitions only.
+-- docs/RULES.md, "Lookup". Definitions only.
 --
 --     whole l               how many whole task records l has; bytes behind the last are ignored
 --     has l id i            record i of l has that id
 --     firstOf f n i         the first place from i on, of n places, that passes f; i + n where none does
---     part l i              the 32 bytes of record i
+--     part l i              the bytes of record i
 --     found l id            the first record of l with that id, or nothing
 --     lookedUp s f id       from the site file if it has the id, else from the factory file, else nothing
 use mathlib.Core.Bool.{cond}

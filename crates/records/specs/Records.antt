@@ -1,6 +1,7 @@
--- Document 01, "Records": task, slot and answer records. Definitions only.
+-- docs/RULES.md, "Records": task, slot and answer records. Definitions only.
 --
---     taskRecord l                 the numbers of a task record's 32 bytes
+--     taskBytes, slotBytes, replyBytes    how long each of them is
+--     taskRecord l                 the numbers of a task record's bytes
 --     slotOf s                     the rules' slot of a slot that was read
 --     slotAt l first i             slot record first + i of the slot buffer l
 --     boardOf r l                  the slots that a task record selects, all the painter's

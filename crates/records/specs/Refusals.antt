@@ -1,12 +1,16 @@
--- Document 01's table of refusals 1 to 11 and the one order in which they are checked. Definitions only.
+-- docs/RULES.md, the table of refusals 1 to 11 and the one order in which they are checked. Definitions only.
 --
 --     sizes, room, range         1, 2 and 3
 --     slotRefusal w b s          what is wrong with slot s behind a slot that ends at b, 0 for nothing
---     slotsRefusal r l           5: too many slots, or the first bad one
+--     firstBad w slot n          the number of the first bad one of n slots, 0 for none
+--     tableRefusal w slot n      5: too many slots, or the first bad one
+--     slotsRefusal r l           the same of the table that a task record selects
+--     boardRefusal r l           3 to 5 of it
 --     bodyRefusal r l            3 to 10 of a task record on a slot buffer, the first that applies
 --     beyond w x                 11
 --     judgeRefusal t l reply     1 to 10, as judging checks them
 --     pointRefusal t l x         1, 3 to 11, as every question at a half tick x checks them
+--     boarded r l                the wheel of a task record whose table is good, or its refusal
 --     checked r l                what an accepted task record is turned into, or its refusal
 --
 -- The part's first slot has nothing before it: the record in front of `first` isn't the previous slot.
@@ -17,15 +21,14 @@ use lib.Dec.{leb, ltb, eqb}
 use lib.ListN.{length}
 use Rattle.rules.specs.Usable.{Slot}
 use Rattle.limits.specs.Refusal.{_when_, _otherwise_, ifNone}
-use Rattle.limits.specs.Limits.{wheelRefusal, taskRefusal}
+use Rattle.limits.specs.Limits.{mostSlots, wheelRefusal, taskRefusal, taskOf}
+use Rattle.limits.specs.declared.WheelMade.{WheelMade}
+use Rattle.limits.specs.declared.WheelMade.the-variants as wheelMade
 use Rattle.records.specs.Records.{taskBytes, slotBytes, replyBytes, taskRecord, slotAt}
 use Rattle.records.specs.declared.TaskRecord.{TaskRecord}
 use Rattle.records.specs.declared.Job.{Job}
 use Rattle.records.specs.declared.Checked.{Checked}
 use Rattle.records.specs.declared.Checked.the-variants.{Accepted, Refused}
-
-abbrev pub mostSlots : ℕ
-mostSlots = 64
 
 unfoldable pub sizes : List ℕ → List ℕ → ℕ
 sizes task slots = 1 when (not (eqb (length task) taskBytes) || not (eqb (length slots % slotBytes) 0))
@@ -46,15 +49,15 @@ unfoldable pub endBefore : (ℕ → Slot) → ℕ → ℕ
 endBefore slot zero = 0
 endBefore slot (suc i) = slot i .end
 
--- The first of n slots that is bad gives the number.
 unfoldable pub firstBad : ℕ → (ℕ → Slot) → ℕ → ℕ
 firstBad w slot zero = 0
 firstBad w slot (suc i) = firstBad w slot i otherwise slotRefusal w (endBefore slot i) (slot i)
 
+unfoldable pub tableRefusal : ℕ → (ℕ → Slot) → ℕ → ℕ
+tableRefusal w slot n = 5 when ltb mostSlots n otherwise firstBad w slot n
+
 unfoldable pub slotsRefusal : TaskRecord → List ℕ → ℕ
-slotsRefusal r slots =
-    5 when ltb mostSlots (r .count)
-    otherwise firstBad (r .w) (slotAt slots (r .first)) (r .count)
+slotsRefusal r slots = tableRefusal (r .w) (slotAt slots (r .first)) (r .count)
 
 -- The refusals of a slot table, then those of the task.
 unfoldable pub boardRefusal : TaskRecord → List ℕ → ℕ
@@ -75,13 +78,17 @@ pointRefusal task slots offset =
     otherwise bodyRefusal (taskRecord task) slots
     otherwise beyond (taskRecord task .w) offset
 
+unfoldable pub boarded : TaskRecord → List ℕ → WheelMade
+boarded r slots =
+    ifNone (boardRefusal r slots) (wheelMade.Made (record { w = r .w })) (wheelMade.Refused (boardRefusal r slots))
+
 abbrev pub jobOf : TaskRecord → Job
 jobOf r =
     record {
-      w = r .w;
+      wheel = record { w = r .w };
       first = r .first;
       count = r .count;
-      task = record { e = r .e; d = r .d; h = r .h; m = r .m; k = r .k };
+      task = taskOf (r .e) (r .d) (r .h) (r .m) (r .k);
     }
 
 unfoldable pub checked : TaskRecord → List ℕ → Checked

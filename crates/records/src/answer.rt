@@ -10,7 +10,11 @@ pub struct Answer {
     pub offset: u32,
 }
 
-pub fn bytes(a: Answer) -> [u8; 16]
+impl Answer {
+    pub const BYTES: usize = 16;
+}
+
+pub fn bytes(a: Answer) -> [u8; Answer::BYTES]
     ensures { λ r. ⌜ r ≡ answerBytes (a .id) (a .number) (a .firm) (a .drops) (a .offset) ⌝ }
 {
     let id = a.id;

@@ -3,9 +3,8 @@ ghost use mathlib.Core.Path.{_≡_};
 ghost use Prim.Native.Nat.{_+_, _*_, _/_, _≤_, _<_};
 ghost use lib.ListN.{length};
 ghost use Rattle.limits.specs.Refusal.{_when_};
-ghost use Rattle.limits.specs.Limits.{wheelRefusal};
 ghost use Rattle.records.specs.Records.{slotBytes, slotOf, slotAt};
-ghost use Rattle.records.specs.Refusals.{slotRefusal, firstBad, boardRefusal};
+ghost use Rattle.records.specs.Refusals.{slotRefusal, firstBad, tableRefusal, boarded};
 ghost use lib.Dec.{ltb};
 use crate::Slot;
 use crate::TaskRecord;
@@ -17,7 +16,7 @@ pub fn slot_at(slots: &[u8], first: usize, i: usize) -> Slot
     requires { ⌜ first + i < length (now slots) / slotBytes ⌝ }
     ensures { λ r. ⌜ slotOf r ≡ slotAt (now (slots .entry)) first i ⌝ }
 {
-    let at = 8 * (first + i);
+    let at = Slot::BYTES * (first + i);
     Slot {
         start: octets::four(slots, at),
         end: octets::four(slots, at + 4),
@@ -64,33 +63,35 @@ fn range(first: usize, count: usize, total: usize) -> u32
     limits::when(3, total - count < first)
 }
 
-// Refusal 4, or 0.
-fn wheel(w: usize) -> u32
-    ensures { λ r. ⌜ r ≡ wheelRefusal w ⌝ }
+// Refusal 5, or 0.
+fn table(slots: &[u8], first: usize, count: usize, w: usize) -> u32
+    requires { ⌜ first + count ≤ length (now slots) / slotBytes ⌝ }
+    ensures { λ r. ⌜ r ≡ tableRefusal w (slotAt (now (slots .entry)) first) count ⌝ }
 {
-    match Wheel::new(w) {
-        WheelMade::Made(_) => 0,
-        WheelMade::Refused(n) => n,
-    }
-}
-
-// The first of the refusals 3 to 5 that applies, or 0.
-pub fn refusal(r: TaskRecord, slots: &[u8]) -> u32
-    ensures { λ n. ⌜ n ≡ boardRefusal r (now (slots .entry)) ⌝ }
-{
-    let first = r.first;
-    let count = r.count;
-    let w = r.w;
-    let far = range(first, count, slots.len() / 8);
-    if far != 0 {
-        return far;
-    }
-    let bad = wheel(w);
-    if bad != 0 {
-        return bad;
-    }
     if Wheel::MOST_SLOTS < count {
         return 5;
     }
     first_bad(slots, first, count, w)
+}
+
+// The wheel behind its table, or the first of the refusals 3 to 5 that applies.
+pub fn wheel(r: TaskRecord, slots: &[u8]) -> WheelMade
+    ensures { λ a. ⌜ a ≡ boarded r (now (slots .entry)) ⌝ }
+{
+    let first = r.first;
+    let count = r.count;
+    let far = range(first, count, slots.len() / Slot::BYTES);
+    if far != 0 {
+        return WheelMade::Refused(far);
+    }
+    match Wheel::new(r.w) {
+        WheelMade::Refused(bad) => WheelMade::Refused(bad),
+        WheelMade::Made(wheel) => {
+            let n = table(slots, first, count, wheel.w);
+            if n != 0 {
+                return WheelMade::Refused(n);
+            }
+            WheelMade::Made(wheel)
+        }
+    }
 }

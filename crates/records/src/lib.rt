@@ -1,4 +1,4 @@
-// Task, slot and answer records: reading them, refusing them in document 01's order, and looking a task up by its id.
+// Task, slot and answer records: reading them, refusing them in the one fixed order, and looking a task up by its id.
 pub mod answer;
 pub mod board;
 pub mod lookup;
@@ -9,6 +9,8 @@ ghost use Rattle.records.specs.Records.{taskBytes, taskRecord};
 ghost use Rattle.records.specs.Refusals.{sizes, checked};
 use limits::Task;
 use limits::TaskMade;
+use limits::Wheel;
+use limits::WheelMade;
 
 // The numbers of a task record, as they stand in it.
 pub struct TaskRecord {
@@ -23,14 +25,22 @@ pub struct TaskRecord {
     pub count: usize,
 }
 
+impl TaskRecord {
+    pub const BYTES: usize = 32;
+}
+
 pub struct Slot {
     pub start: usize,
     pub end: usize,
 }
 
+impl Slot {
+    pub const BYTES: usize = 8;
+}
+
 // A task record that was accepted: a good wheel and task, and the part of the slot buffer that is its table.
 pub struct Job {
-    pub w: usize,
+    pub wheel: Wheel,
     pub first: usize,
     pub count: usize,
     pub task: Task,
@@ -45,16 +55,16 @@ pub enum Checked {
 pub fn sizes(task: &[u8], slots: &[u8]) -> u32
     ensures { λ r. ⌜ r ≡ sizes (now (task .entry)) (now (slots .entry)) ⌝ }
 {
-    if task.len() != 32 {
+    if task.len() != TaskRecord::BYTES {
         return 1;
     }
-    if slots.len() % 8 != 0 {
+    if slots.len() % Slot::BYTES != 0 {
         return 1;
     }
     0
 }
 
-// The numbers of a task record of 32 bytes.
+// The numbers of a whole task record.
 pub fn read(task: &[u8]) -> TaskRecord
     requires { ⌜ length (now task) ≡ taskBytes ⌝ }
     ensures { λ r. ⌜ r ≡ taskRecord (now (task .entry)) ⌝ }
@@ -76,24 +86,16 @@ pub fn read(task: &[u8]) -> TaskRecord
 pub fn check(r: TaskRecord, slots: &[u8]) -> Checked
     ensures { λ a. ⌜ a ≡ checked r (now (slots .entry)) ⌝ }
 {
-    let n = board::refusal(r, slots);
-    if n != 0 {
-        return Checked::Refused(n);
-    }
-    let asked = Task {
-        e: r.e,
-        d: r.d,
-        h: r.h,
-        m: r.m,
-        k: r.k,
-    };
-    match Task::new(asked) {
-        TaskMade::Refused(bad) => Checked::Refused(bad),
-        TaskMade::Made(task) => Checked::Accepted(Job {
-            w: r.w,
-            first: r.first,
-            count: r.count,
-            task,
-        }),
+    match board::wheel(r, slots) {
+        WheelMade::Refused(bad) => Checked::Refused(bad),
+        WheelMade::Made(wheel) => match Task::new(r.e, r.d, r.h, r.m, r.k) {
+            TaskMade::Refused(bad) => Checked::Refused(bad),
+            TaskMade::Made(task) => Checked::Accepted(Job {
+                wheel,
+                first: r.first,
+                count: r.count,
+                task,
+            }),
+        },
     }
 }

@@ -1,4 +1,4 @@
--- P1 to P14 of document 01: the statement CasesHold.
+-- P1 to P14 of docs/RULES.md: the statement CasesHold.
 --
 -- Each kind of case has a test that computes over the half ticks of the wheel, and a law that turns the passed test into the claim over all
 -- fractions. The checker then runs the tests of the whole list at once.

@@ -1,4 +1,4 @@
--- Document 01, "Cases by hand": P1 to P14 as one list under one statement. Definitions only.
+-- docs/RULES.md, "Cases by hand": P1 to P14 as one list under one statement. Definitions only.
 --
 --     Case           a case by hand, of one of five kinds
 --     Holds          what a case claims, by the rules

@@ -1,4 +1,4 @@
--- Document 01, "Granting slots". Definitions only.
+-- docs/RULES.md, "Granting slots". Definitions only.
 --
 --     first free j            the first j free slots in number order; all of them where there are fewer
 --     gridTicks N v g         the usable ticks of a wheel of N slots of v ticks, of which those in g are the painter's

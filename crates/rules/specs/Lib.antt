@@ -1,4 +1,4 @@
--- In reading order: what document 01 says (Sums to Grant), the laws that follow (Laws), and the cases by hand (Cases).
+-- In reading order: what docs/RULES.md says (Sums to Grant), the laws that follow (Laws), and the cases by hand (Cases).
 pub mod Sums
 pub mod Supply
 pub mod Usable

@@ -1,4 +1,4 @@
--- Document 01, rules 2 to 5: supply, drop and drop count, over any set of usable ticks. Definitions only.
+-- docs/RULES.md, rules 2 to 5: supply, drop and drop count, over any set of usable ticks. Definitions only.
 --
 -- Every time is a whole number of units of 1/q of a tick (rule 5): q 1 counts in ticks, q 2 in half ticks. Unit i lies in tick i / q.
 --

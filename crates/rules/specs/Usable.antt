@@ -1,4 +1,4 @@
--- Document 01, rule 1, and "Granting slots": which ticks are usable. The only definitions that know of slots. Definitions only.
+-- docs/RULES.md, rule 1, and "Granting slots": which ticks are usable. The only definitions that know of slots. Definitions only.
 --
 --     Slot          from its start to its end, the end not in it; an end may equal w
 --     Table         slots by number, how many there are, and which of them are the painter's

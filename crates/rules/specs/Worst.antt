@@ -1,4 +1,4 @@
--- Document 01, rules 6 and 7: the worst count, the worst offset, and firm. Definitions only.
+-- docs/RULES.md, rules 6 and 7: the worst count, the worst offset, and firm. Definitions only.
 --
 --     Wheel w u          the set u of ticks repeats every w ticks, w at least 1
 --     Worst w u t c o    c is the worst count and o the worst offset in half ticks

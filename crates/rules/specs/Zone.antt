@@ -1,4 +1,4 @@
--- Document 01, rule 8: miss zones and the offsets they make worth looking at. Definitions only.
+-- docs/RULES.md, rule 8: miss zones and the offsets they make worth looking at. Definitions only.
 --
 --     ZoneStart w u t a    a miss zone starts at tick a of the wheel
 --     back w a x           (a − x) modulo w, for a below w

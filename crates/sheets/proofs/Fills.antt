@@ -10,10 +10,11 @@ use lib.ListN.{length, take, drop, replicate}
 use lib.Seq.{length-take-le}
 use borrow.Author.Tests.{ltb-true, ltb-false, lt-ltb, le-ltb, le-leb, eq-eqb, ne-eqb}
 use Rattle.io.specs.Counts.{Counts}
-use Rattle.records.specs.Records.{replyBytes}
+use Rattle.records.specs.Records.{taskBytes, slotBytes, replyBytes}
 use Rattle.records.specs.Lookup.{whole, part}
+use Rattle.records.proofs.Places.{cut-part}
 use Rattle.judge.specs.Judge.{Judged}
-use Rattle.lines.specs.Lines.{longestLine, lineOf, refusedLine, fitting, lineFor, Put}
+use Rattle.lines.specs.Lines.{longestLine, refusedLong, lineOf, refusedLine, fitting, lineFor, Put}
 use Rattle.lines.proofs.Texts.{put-none, put-then}
 use Rattle.sheets.specs.Sheets.{mostBytes, none, more, rest, bad, Filled, RowPut, RowsPut}
 
@@ -25,7 +26,7 @@ pub bad-slots : (l s : List ℕ) → length l ≤ mostBytes → mostBytes < leng
 unfolding bad
 bad-slots l s t n = rw (le-ltb mostBytes (length l) t, lt-ltb mostBytes (length s) n)
 
-pub bad-size : (l s : List ℕ) → length l ≤ mostBytes → length s ≤ mostBytes → not (eqb (length s % 8) 0) ≡ bad l s
+pub bad-size : (l s : List ℕ) → length l ≤ mostBytes → length s ≤ mostBytes → not (eqb (length s % slotBytes) 0) ≡ bad l s
 unfolding bad
 bad-size l s t n = rw (le-ltb mostBytes (length l) t, le-ltb mostBytes (length s) n)
 
@@ -42,12 +43,12 @@ pub line-is : (a b : List ℕ) (at : ℕ) → length a ≡ replyBytes → at + l
 unfolding lineFor fitting
 line-is a b at s l = rw (eq-eqb (length a) replyBytes s, le-leb (at + longestLine) (length b) l)
 
-pub refused-is : (b : List ℕ) (at : ℕ) → at + 10 ≤ length b → fitting 10 refusedLine b at ≡ refusedLine
+pub refused-is : (b : List ℕ) (at : ℕ) → at + refusedLong ≤ length b → fitting refusedLong refusedLine b at ≡ refusedLine
 unfolding fitting
-refused-is b at l = rw (le-leb (at + 10) (length b) l)
+refused-is b at l = rw (le-leb (at + refusedLong) (length b) l)
 
 pub refused-end :
-    (b : List ℕ) (at : ℕ) {d : List ℕ} {r : ℕ} → at + 10 ≤ length b → Put (fitting 10 refusedLine b at) b at r d → r ≡ at + 10
+    (b : List ℕ) (at : ℕ) {d : List ℕ} {r : ℕ} → at + refusedLong ≤ length b → Put (fitting refusedLong refusedLine b at) b at r d → r ≡ at + refusedLong
 unfolding refusedLine
 refused-end b at l p = p .behind ∙ ap (λ t. at + length t) (refused-is b at l)
 
@@ -78,11 +79,10 @@ going-none l slots b n =
 
 pub going-more :
     {l slots b d e : List ℕ} {n at i m : ℕ} → Going l slots b d n at i → i < n
-    → RowPut (take (32 * i + 32 - 32 * i) (drop (32 * i) l)) slots d at m e → length e ≡ length d → Going l slots b e n m (i + 1)
-unfolding part
+    → RowPut (take (taskBytes * i + taskBytes - taskBytes * i) (drop (taskBytes * i) l)) slots d at m e → length e ≡ length d
+    → Going l slots b e n m (i + 1)
 going-more {l} {slots} {b} {d} {e} {n} {at} {i} {m} g u r s =
-    let long : 32 * i + 32 - 32 * i ≡ 32 = omega arith in
-    let one : RowPut (part l i) slots d at m e = rw long at r in
+    let one : RowPut (part l i) slots d at m e = rw (cut-part l i) at r in
     record {
       upto = omega arith;
       put =
@@ -101,7 +101,7 @@ going-all {l} {slots} {b} {d} {n} {at} {i} g u = let e : i ≡ n = le-antisymm (
 -- One line alone, whole records, and whole records with a part behind them.
 module _ (l slots b : List ℕ) where
   pub filled-alone :
-      {d : List ℕ} {r : ℕ} → bad l slots ≡ true → 10 ≤ length b → Put (fitting 10 refusedLine b 0) b 0 r d → Filled l slots b r d
+      {d : List ℕ} {r : ℕ} → bad l slots ≡ true → refusedLong ≤ length b → Put (fitting refusedLong refusedLine b 0) b 0 r d → Filled l slots b r d
   filled-alone {d} {r} t k p =
       record {
         text = refusedLine;
@@ -118,7 +118,7 @@ module _ (l slots b : List ℕ) where
     never : {t : List ℕ} → bad l slots ≡ true → t ≡ refusedLine
     never t = absurd (let z : true ≡ false = sym t ∙ f in let n : _≡_ {A = ℕ} 0 1 = cc in omega arith)
 
-    pub filled-whole : length l % 32 ≡ 0 → Filled l slots b at d
+    pub filled-whole : length l % taskBytes ≡ 0 → Filled l slots b at d
     unfolding rest
     filled-whole e =
         record {
@@ -127,14 +127,14 @@ module _ (l slots b : List ℕ) where
               record {
                 alone = never;
                 lines = p .text;
-                rows = λ _. (p .rows, rw (eq-eqb (length l % 32) 0 e) (sym (append-nil (p .text))));
+                rows = λ _. (p .rows, rw (eq-eqb (length l % taskBytes) 0 e) (sym (append-nil (p .text))));
               };
           put = p .put;
         }
 
     pub filled-part :
-        {e : List ℕ} {r : ℕ} → (length l % 32 ≡ 0 → ⊥) → at + 10 ≤ length d
-        → Put (fitting 10 refusedLine d at) d at r e → Filled l slots b r e
+        {e : List ℕ} {r : ℕ} → (length l % taskBytes ≡ 0 → ⊥) → at + refusedLong ≤ length d
+        → Put (fitting refusedLong refusedLine d at) d at r e → Filled l slots b r e
     unfolding rest
     filled-part n k q =
         record {
@@ -143,7 +143,7 @@ module _ (l slots b : List ℕ) where
               record {
                 alone = never;
                 lines = p .text;
-                rows = λ _. (p .rows, rw (ne-eqb (length l % 32) 0 n));
+                rows = λ _. (p .rows, rw (ne-eqb (length l % taskBytes) 0 n));
               };
           put = put-then (omega arith) (p .put) (rw (refused-is d at k) at q);
         }

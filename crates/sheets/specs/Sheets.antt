@@ -1,4 +1,4 @@
--- Document 01, "The printed sheet": the text that a task file and a slot file give. Definitions only.
+-- docs/RULES.md, "The printed sheet": the text that a task file and a slot file give. Definitions only.
 --
 --     Row task slots t      t is the line of a whole task record: the answer that judging writes, in decimal
 --     Rows l slots n t      t is the lines of the first n task records of l, one behind the other
@@ -10,22 +10,22 @@
 use mathlib.Core.Path.{_≡_}
 use mathlib.Core.Bool.{Bool, true, false, not, _||_, cond}
 use mathlib.Core.List.{List, [], _++_}
-use Prim.Native.Nat.{ℕ, _+_, _*_, _%_, _≤_}
+use Prim.Native.Nat.{ℕ, _+_, _*_, _/_, _%_, _≤_}
 use lib.Dec.{eqb, ltb}
 use lib.ListN.{length, replicate}
 use Rattle.records.specs.Records.{taskBytes, slotBytes, replyBytes}
 use Rattle.records.specs.Lookup.{whole, part}
 use Rattle.judge.specs.Judge.{Judged}
-use Rattle.lines.specs.Lines.{longestLine, lineOf, refusedLine, Put}
+use Rattle.lines.specs.Lines.{longestLine, refusedLong, lineOf, refusedLine, Put}
 
 abbrev pub mostBytes : ℕ
 mostBytes = 65536
 
--- The longest lines of 2,048 records, and the ten bytes of the line for a part record.
+-- The longest lines of as many records as a file may have, and the line for a part record.
 abbrev pub mostText : ℕ
-mostText = 92170
+mostText = longestLine * (mostBytes / taskBytes) + refusedLong
 
--- The reply buffer is cleared first: of sixteen bytes, so refusal 2 is never given.
+-- The reply buffer is cleared first: as long as an answer record, so refusal 2 is never given.
 pub record Row (task slots t : List ℕ) : Type 0 where
   pub number : ℕ
   pub answer : List ℕ

@@ -6,13 +6,22 @@ ghost use Rattle.io.specs.Counts.{Counts};
 ghost use Rattle.lines.specs.Lines.{longestLine};
 ghost use Rattle.records.specs.Lookup.{whole};
 ghost use Rattle.sheets.specs.Sheets.{mostText, bad, RowPut, RowsPut, Filled};
+use records::Slot;
+use records::TaskRecord;
+use records::answer::Answer;
+
+// The longest file.
+const MOST_BYTES: usize = 65536;
+
+// The longest lines of as many records as a file may have, and the line for a part record.
+pub const MOST_TEXT: usize = lines::LONGEST * (MOST_BYTES / TaskRecord::BYTES) + lines::REFUSED;
 
 // The line of one whole task record, put at place `at`.
 fn row(task: &[u8], slots: &[u8], out: &mut [u8], at: usize) -> usize
     requires { ⌜ at + longestLine ≤ length (now out) ⌝ }
     ensures { λ r. ⌜ RowPut (now (task .entry)) (now (slots .entry)) (now (out .entry)) at r (now (out .exit)) ⌝ }
 {
-    let mut reply = [0u8; 16];
+    let mut reply = [0u8; Answer::BYTES];
     judge::judge(task, slots, &mut reply);
     lines::line(&reply, out, at)
 }
@@ -22,12 +31,12 @@ fn rows(tasks: &[u8], slots: &[u8], out: &mut [u8]) -> usize
     requires { ⌜ longestLine * whole (now tasks) ≤ length (now out) ⌝ }
     ensures { λ r. ⌜ RowsPut (now (tasks .entry)) (now (slots .entry)) (now (out .entry)) (whole (now (tasks .entry))) r (now (out .exit)) ⌝ }
 {
-    let n = tasks.len() / 32;
+    let n = tasks.len() / TaskRecord::BYTES;
     let mut at = 0;
     let mut i = 0;
     while i < n {
-        let from = 32 * i;
-        let to = from + 32;
+        let from = TaskRecord::BYTES * i;
+        let to = from + TaskRecord::BYTES;
         at = row(&tasks[from..to], slots, out, at);
         i += 1;
     }
@@ -38,17 +47,17 @@ fn rows(tasks: &[u8], slots: &[u8], out: &mut [u8]) -> usize
 fn only(tasks: &[u8], slots: &[u8]) -> bool
     ensures { λ r. ⌜ r ≡ bad (now (tasks .entry)) (now (slots .entry)) ⌝ }
 {
-    if 65536 < tasks.len() {
+    if MOST_BYTES < tasks.len() {
         return true;
     }
-    if 65536 < slots.len() {
+    if MOST_BYTES < slots.len() {
         return true;
     }
-    slots.len() % 8 != 0
+    slots.len() % Slot::BYTES != 0
 }
 
 // The whole sheet, put over the start of `out`.
-pub fn sheet(tasks: &[u8], slots: &[u8], out: &mut [u8; 92170]) -> usize
+pub fn sheet(tasks: &[u8], slots: &[u8], out: &mut [u8; MOST_TEXT]) -> usize
     ensures { λ r. ⌜ Filled (now (tasks .entry)) (now (slots .entry)) (now (out .entry)) r (now (out .exit)) ⌝ }
     ensures { λ r. ⌜ Counts r (now (out .exit)) × (r ≤ mostText) ⌝ }
 {
@@ -56,7 +65,7 @@ pub fn sheet(tasks: &[u8], slots: &[u8], out: &mut [u8; 92170]) -> usize
         return lines::refused(out, 0);
     }
     let at = rows(tasks, slots, out);
-    if tasks.len() % 32 == 0 {
+    if tasks.len() % TaskRecord::BYTES == 0 {
         return at;
     }
     lines::refused(out, at)
@@ -86,9 +95,9 @@ fn read(path: &[u8], buf: &mut [u8]) -> usize
 pub fn print(tasks: &[u8], slots: &[u8]) -> usize
     ensures { λ r. ⌜ r ≤ mostText ⌝ }
 {
-    let mut task_file = [0u8; 65537];
-    let mut slot_file = [0u8; 65537];
-    let mut out = [0u8; 92170];
+    let mut task_file = [0u8; MOST_BYTES + 1];
+    let mut slot_file = [0u8; MOST_BYTES + 1];
+    let mut out = [0u8; MOST_TEXT];
     let t = read(tasks, &mut task_file);
     let s = read(slots, &mut slot_file);
     let n = sheet(&task_file[..t], &slot_file[..s], &mut out);

@@ -1,3 +1,3 @@
-pub mod Ramps
+pub mod Spans
 pub mod Slots
 pub mod Marks

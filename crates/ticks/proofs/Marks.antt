@@ -1,4 +1,4 @@
--- Which ticks of a grant's wheel are usable, and the fill of its total slot by slot. Assumes nothing.
+-- Which ticks of a grant's wheel are usable, and how they are laid out slot by slot. Assumes nothing.
 use mathlib.Core.Path.{_≡_, refl, sym, ap, _∙_}
 use mathlib.Core.Logic.{⊎-elim}
 use mathlib.Core.Bool.{Bool, true, false, _&&_, and-false}
@@ -8,15 +8,16 @@ use native.Mathlib.Nat.{mod-eq-of-lt, le-antisymm, add-mul, one-mul, zero-mul, m
 use native.Mathlib.Omega.{arith}
 use native.Mathlib.Decide.{ℕ-discrete}
 use lib.Dec.{leb, ltb, eqb}
-use lib.ListN.{length, getD, set, length-set}
+use lib.ListN.{length, getD}
 use borrow.Author.Tests.{le-leb, lt-leb, lt-ltb, le-ltb, eq-eqb, ne-eqb}
 use Rattle.rules.specs.Sums.{Subset, bit, any, number}
 use Rattle.rules.specs.Usable.{covers, usable, grid}
 use Rattle.rules.specs.Grant.{first, gridTicks}
-use Rattle.rules.proofs.Sums.{le-or-lt, any-intro, any-none, number-none, number-more}
-use Rattle.ticks.specs.Total.{Upto, Ramp, Ramped, freeOf, GridFits}
-use Rattle.ticks.proofs.Ramps.{ramp-total}
-use Rattle.ticks.proofs.Slots.{upto-small, upto-none}
+use Rattle.rules.proofs.Sums.{le-or-lt, bit-le, any-intro, any-none, number-none, number-le, number-more}
+use Rattle.rules.proofs.Total.{slots-turn}
+use Rattle.runs.specs.Runs.{LaidIn}
+use Rattle.ticks.specs.Ticks.{Span, freeOf, GridFits}
+use Rattle.ticks.proofs.Spans.{Come, come-none, come-on, come-round}
 
 -- ---- a mark and its bit
 
@@ -83,66 +84,65 @@ module _ (N v : ℕ) (g : Subset) (i x : ℕ) (inside : i < N) (low : i * v ≤ 
           none k (yes p) = ap (λ b. b && covers (record { start = k * v; end = (k + 1) * v }) x) (ap g p ∙ e)
           none k (no p) = ap (λ b. g k && b) (elsewhere k p) ∙ and-false (g k)
 
--- ---- filling slot by slot
+-- ---- laying slot by slot
 
--- Slots 0 to i − 1 are filled: the total stands at i × v, and `seen` of them are free.
-pub record Gridding (l : List ℕ) (v j : ℕ) (t₀ t : List ℕ) (at seen i : ℕ) : Type 0 where
+-- The buffer has come to slot i, at i × v, with an edge at most for each slot; `seen` of the slots before are free.
+pub record Gridding (l : List ℕ) (v j : ℕ) (t₀ t : List ℕ) (n at seen i : ℕ) : Type 0 where
   pub fits : GridFits l v t₀
   pub upto : i ≤ length l
   pub place : at ≡ i * v
   pub passed : seen ≡ number (freeOf l) i
-  pub total : Upto t at (gridTicks (length l) v (first (freeOf l) j))
-  pub long : length t ≡ length t₀
+  pub few : n ≤ i
+  pub come : Come (gridTicks (length l) v (first (freeOf l) j)) t₀ t n at
 
-pub gridding-start : (l : List ℕ) (v j : ℕ) (t : List ℕ) → GridFits l v t → Gridding l v j (set t 0 0) (set t 0 0) 0 0 0
+pub gridding-start : (l : List ℕ) (v j : ℕ) (t : List ℕ) → GridFits l v t → Gridding l v j t t 0 0 0 0
 gridding-start l v j t f =
     record {
-      fits = record { most = f .most; some = f .some; room = rw (length-set t 0 0) (f .room) };
+      fits = f;
       upto = omega arith;
       place = sym (zero-mul v);
       passed = sym (number-none (freeOf l));
-      total = upto-none t _ (omega (arith, f .room));
-      long = refl;
+      few = omega arith;
+      come = come-none _ t;
     }
 
-module _ (l : List ℕ) (v j : ℕ) (t₀ t : List ℕ) (at seen i : ℕ) (g : Gridding l v j t₀ t at seen i) where
+module _ (l : List ℕ) (v j : ℕ) (t₀ t : List ℕ) (n at seen i : ℕ) (g : Gridding l v j t₀ t n at seen i) where
   pub grid-inside : i < length l → at + v ≤ length l * v
   grid-inside less =
       let m : (i + 1) * v ≤ length l * v = mul-le-mul-right v (omega arith) in
       omega (arith, add-mul i 1 v, one-mul v, g .place)
 
-  pub grid-ramp : i < length l → (step : ℕ) → step ≤ 1 → Ramp t at (at + v) step
-  grid-ramp less step one =
-      let last = grid-inside less in
-      record {
-        order = omega arith;
-        room = omega (arith, g .fits .room, g .long);
-        most = omega (arith, g .fits .most);
-        small = upto-small t at _ (g .total);
-        one = one;
-      }
+  pub grid-room : i < length l → n < length t
+  grid-room less = omega (arith, g .few, g .fits .room, g .come .long)
+
+  pub grid-seen : i < length l → (f : ℕ) → f ≡ bit (eqb (getD l i 0) 1) → seen + f ≤ length l
+  grid-seen less f q = omega (arith, g .passed, number-le (freeOf l) i, bit-le (eqb (getD l i 0) 1))
 
   pub grid-more :
-      i < length l → (step f : ℕ) (t′ : List ℕ)
-      → step ≡ bit (eqb (getD l i 0) 1 && ltb seen j) → f ≡ bit (eqb (getD l i 0) 1) → Ramped t t′ at (at + v) step
-      → Gridding l v j t₀ t′ (at + v) (seen + f) (i + 1)
+      i < length l → (step f r : ℕ) (t′ : List ℕ)
+      → step ≡ bit (eqb (getD l i 0) 1 && ltb seen j) → f ≡ bit (eqb (getD l i 0) 1) → Span t n at (at + v) step r t′
+      → Gridding l v j t₀ t′ r (at + v) (seen + f) (i + 1)
   unfolding first freeOf
-  grid-more less step f t′ p q r =
+  grid-more less step f r t′ p q s =
       let granted : step ≡ bit (first (freeOf l) j i) =
-      p ∙ ap (λ n. bit (eqb (getD l i 0) 1 && ltb n j)) (g .passed) in
+      p ∙ ap (λ k. bit (eqb (getD l i 0) 1 && ltb k j)) (g .passed) in
       record {
         fits = g .fits;
         upto = omega arith;
-        place = ap (λ n. n + v) (g .place) ∙ sym (add-mul i 1 v ∙ ap (λ n. i * v + n) (one-mul v));
+        place = ap (λ k. k + v) (g .place) ∙ sym (add-mul i 1 v ∙ ap (λ k. i * v + k) (one-mul v));
         passed = omega (arith, g .passed, number-more (freeOf l) i);
-        total = ramp-total t t′ at (at + v) (first (freeOf l) j i) _ (rw granted at r) (g .total) (omega arith) (λ x low high.
-            grid-tick (length l) v (first (freeOf l) j) i x less (rw (g .place) at low) (rw (g .place) at high));
-        long = r .long ∙ g .long;
+        few = omega (arith, g .few, s .high);
+        come = come-on (g .come) s (λ x low high.
+            ap bit (grid-tick (length l) v (first (freeOf l) j) i x less (rw (g .place) at low) (rw (g .place) at high))
+            ∙ sym granted);
       }
 
-  pub grid-end :
-      length l ≤ i
-      → (length t ≡ length t₀) × Upto t (length l * v) (gridTicks (length l) v (first (freeOf l) j))
+  pub grid-end : length l ≤ i → LaidIn t₀ t n (length l * v) (gridTicks (length l) v (first (freeOf l) j))
+  unfolding gridTicks
   grid-end end =
-      let e : at ≡ length l * v = g .place ∙ ap (λ n. n * v) (le-antisymm (g .upto) end) in
-      (g .long, rw e at (g .total))
+      let e : at ≡ length l * v = g .place ∙ ap (λ k. k * v) (le-antisymm (g .upto) end) in
+      come-round
+      (rw e at (g .come))
+      (omega (arith, g .few, g .upto, g .fits .room))
+      (slots-turn (length l * v) _ (g .fits .some))
+      (g .fits .most)

@@ -1,26 +1,28 @@
 -- Which ticks of a good table are usable: those in a slot, and none between two. Assumes nothing.
 --
--- In order: what a good slot is; slots in order; ticks in a slot and between slots; filling slot by slot.
+-- In order: what a good slot is; slots in order; ticks in a slot and between slots; laying slot by slot.
 use mathlib.Core.Path.{_≡_, refl, sym, ap, _∙_}
 use mathlib.Core.Logic.{⊎-elim}
 use mathlib.Core.Bool.{true, false, _&&_, and-false}
 use mathlib.Core.List.{List}
-use Prim.Native.Nat.{ℕ, zero, suc, _+_, _-_, _≤_, _<_}
+use Prim.Native.Nat.{ℕ, zero, suc, _+_, _-_, _*_, _≤_, _<_}
 use native.Mathlib.Nat.{mod-eq-of-lt, le-refl, le-trans, not-suc-le-zero, zero-lt-suc, le-of-suc-le-suc, eq-or-lt-of-le}
 use native.Mathlib.Numerals.{add-one}
 use native.Mathlib.Omega.{arith}
 use lib.Dec.{leb, ltb}
-use lib.ListN.{length, getD, set, length-set}
-use lib.Seq.{getD-set-same}
+use lib.ListN.{length}
 use borrow.Author.Tests.{leb-false, ltb-false, le-leb, lt-leb, lt-ltb, le-ltb}
 use Rattle.limits.specs.Limits.{mostTicks}
 use Rattle.limits.proofs.Refusals.{both-none, when-none}
-use Rattle.rules.specs.Sums.{Subset, bit}
+use Rattle.rules.specs.Sums.{bit}
 use Rattle.rules.specs.Usable.{Slot, Table, covers, usable}
-use Rattle.rules.proofs.Sums.{le-or-lt, any-intro, any-none, number-none, number-le}
+use Rattle.rules.proofs.Sums.{le-or-lt, any-intro, any-none}
+use Rattle.rules.proofs.Total.{slots-turn}
+use Rattle.records.specs.Records.{slotAt}
 use Rattle.records.specs.Refusals.{slotRefusal, endBefore, firstBad}
-use Rattle.ticks.specs.Total.{Upto, Ramp, Ramped}
-use Rattle.ticks.proofs.Ramps.{ramp-total}
+use Rattle.runs.specs.Runs.{LaidIn}
+use Rattle.ticks.specs.Ticks.{Span, Fits}
+use Rattle.ticks.proofs.Spans.{Come, come-none, come-on, come-round}
 
 -- ---- what a good slot is
 
@@ -115,114 +117,67 @@ module _ (w : ℕ) (slot : ℕ → Slot) (n : ℕ) (e : firstBad w slot n ≡ 0)
       (ap (λ y. leb (slot i .start) y && ltb y (slot i .end)) (mod-eq-of-lt wide)
       ∙ ap (λ b. b && ltb x (slot i .end)) (le-leb (slot i .start) x low) ∙ lt-ltb x (slot i .end) high)
 
--- ---- the total up to a place
+-- ---- laying slot by slot
 
-pub upto-small : (l : List ℕ) (m : ℕ) (u : Subset) → Upto l m u → getD l m 0 ≤ m
-upto-small l m u t = omega (arith, t .at m (le-refl m), number-le u m)
+-- The buffer has come to the end of slot i − 1 of a table in the bytes b, with at most an edge for each start and each end but the last.
+pub record Laying (b : List ℕ) (first count w : ℕ) (l₀ l : List ℕ) (n at i : ℕ) : Type 0 where
+  pub fits : Fits b first count w l₀
+  pub upto : i ≤ count
+  pub ends : at ≡ endBefore (slotAt b first) i
+  pub few : n < 2 * i + (1 - i)
+  pub come : Come (usable w (record { size = count; slot = slotAt b first; ours = λ _. true })) l₀ l n at
 
-pub upto-none : (l : List ℕ) (u : Subset) → 0 < length l → Upto (set l 0 0) 0 u
-upto-none l u pos =
-    record {
-      at = λ x le.
-          let q : x ≡ 0 = omega arith in
-          rw q (getD-set-same l 0 0 0 pos ∙ sym (number-none u));
-    }
-
--- ---- filling slot by slot
-
--- The total of l₀'s length is filled up to the end of slot i − 1.
-pub record Filling (w : ℕ) (slot : ℕ → Slot) (n : ℕ) (l₀ l : List ℕ) (at i : ℕ) : Type 0 where
-  pub good : firstBad w slot n ≡ 0
-  pub some : 0 < w
-  pub most : w ≤ mostTicks
-  pub room : w < length l₀
-  pub upto : i ≤ n
-  pub ends : at ≡ endBefore slot i
-  pub total : Upto l at (usable w (record { size = n; slot = slot; ours = λ _. true }))
-  pub long : length l ≡ length l₀
-
-pub filling-start :
-    (w : ℕ) (slot : ℕ → Slot) (n : ℕ) (l : List ℕ) → firstBad w slot n ≡ 0 → 0 < w → w ≤ mostTicks → w < length l
-    → Filling w slot n (set l 0 0) (set l 0 0) 0 0
+pub laying-start : (b : List ℕ) (first count w : ℕ) (l : List ℕ) → Fits b first count w l → Laying b first count w l l 0 0 0
 unfolding endBefore
-filling-start w slot n l good some most room =
-    record {
-      good = good;
-      some = some;
-      most = most;
-      room = rw (length-set l 0 0) room;
-      upto = omega arith;
-      ends = refl;
-      total = upto-none l _ (omega arith);
-      long = refl;
-    }
+laying-start b first count w l fits =
+    record { fits = fits; upto = omega arith; ends = refl; few = omega arith; come = come-none _ l }
 
--- A table's own slot s is its slot i.
-module _ (w : ℕ) (slot : ℕ → Slot) (n : ℕ) (l₀ l : List ℕ) (at i : ℕ) (f : Filling w slot n l₀ l at i) where
-  module _ (s : Slot) (q : s ≡ slot i) (less : i < n) where
+module _ (b : List ℕ) (first count w : ℕ) (l₀ l : List ℕ) (n at i : ℕ) (f : Laying b first count w l₀ l n at i) where
+  gap : (x : ℕ) → at ≤ x → x < w → (i < count → x < slotAt b first i .start) → usable w (board w (slotAt b first) count (f .fits .good)) x ≡ false
+  gap x low wide high = gap-ticks w (slotAt b first) count (f .fits .good) i x (f .upto) (rw (f .ends) at low) wide high
+
+  pub laying-room : n < length l
+  laying-room = omega (arith, f .few, f .upto, f .fits .room, f .fits .one, f .come .long)
+
+  -- A slot s that was read is the table's slot i.
+  module _ (s : Slot) (q : s ≡ slotAt b first i) (less : i < count) where
     good : Good w at s
-    good = rw (← q, ← f .ends) at (good-slot w slot n i (f .good) less)
+    good = rw (← q, ← f .ends) at (good-slot w (slotAt b first) count i (f .fits .good) less)
 
-    pub gap-ramp : Ramp l at (s .start) 0
-    gap-ramp =
-        record {
-          order = good .after;
-          room = omega (arith, good .long, good .inside, f .room, f .long);
-          most = omega (arith, good .long, good .inside, f .most);
-          small = upto-small l at _ (f .total);
-          one = omega arith;
-        }
+    pub laying-order : (at ≤ s .start) × (s .start ≤ s .end) × (s .end ≤ mostTicks)
+    laying-order = omega (arith, good .after, good .long, good .inside, f .fits .most)
 
-    gap-done : (l′ : List ℕ) → Ramped l l′ at (s .start) 0 → Upto l′ (s .start) (usable w (board w slot n (f .good)))
-    unfolding bit
-    gap-done l′ r =
-        ramp-total l l′ at (s .start) false _ r (f .total) (good .after) (λ x low high.
-        gap-ticks w slot n (f .good) i x (f .upto) (rw (f .ends) at low) (omega (arith, good .long, good .inside))
-        (λ _. rw q at high))
+    -- The edge of the gap before it leaves room for one more.
+    pub laying-more : (l′ : List ℕ) (step r : ℕ) → Span l n at (s .start) step r l′ → r < length l′
+    laying-more l′ step r out = omega (arith, f .few, out .high, out .long, f .fits .room, f .come .long)
 
-    pub slot-ramp : (l′ : List ℕ) → Ramped l l′ at (s .start) 0 → Ramp l′ (s .start) (s .end) 1
-    slot-ramp l′ r =
-        record {
-          order = omega (arith, good .long);
-          room = omega (arith, good .inside, f .room, f .long, r .long);
-          most = omega (arith, good .inside, f .most);
-          small = upto-small l′ (s .start) _ (gap-done l′ r);
-          one = omega arith;
-        }
-
-    pub slot-done :
-        (l′ l″ : List ℕ) → Ramped l l′ at (s .start) 0 → Ramped l′ l″ (s .start) (s .end) 1
-        → Filling w slot n l₀ l″ (s .end) (i + 1)
+    pub laying-next :
+        (l′ l″ : List ℕ) (r r′ : ℕ) → Span l n at (s .start) 0 r l′ → Span l′ r (s .start) (s .end) 1 r′ l″
+        → Laying b first count w l₀ l″ r′ (s .end) (i + 1)
     unfolding bit endBefore
-    slot-done l′ l″ r r′ =
+    laying-next l′ l″ r r′ out run =
         record {
-          good = f .good;
-          some = f .some;
-          most = f .most;
-          room = f .room;
+          fits = f .fits;
           upto = omega arith;
-          ends = ap (λ (x : Slot). x .end) q ∙ ap (endBefore slot) (sym (add-one i));
-          total = ramp-total l′ l″ (s .start) (s .end) true _ r′ (gap-done l′ r) (omega (arith, good .long)) (λ x low high.
-              slot-ticks w slot n (f .good) i x less (rw q at low) (rw q at high));
-          long = r′ .long ∙ r .long ∙ f .long;
+          ends = ap (λ (x : Slot). x .end) q ∙ ap (endBefore (slotAt b first)) (sym (add-one i));
+          few = omega (arith, f .few, out .high, run .high, run .parity (good .long));
+          come = come-on
+              (come-on (f .come) out (λ x low high.
+              ap bit (gap x low (omega (arith, good .long, good .inside)) (λ _. rw q at high))))
+              run
+              (λ x low high. ap bit (slot-ticks w (slotAt b first) count (f .fits .good) i x less (rw q at low) (rw q at high)));
         }
 
-  pub last-ramp : n ≤ i → Ramp l at w 0
-  last-ramp end =
-      record {
-        order = rw (f .ends) (end-inside w slot n (f .good) i (f .upto));
-        room = omega (arith, f .room, f .long);
-        most = f .most;
-        small = upto-small l at _ (f .total);
-        one = omega arith;
-      }
+  pub laying-inside : at ≤ w
+  laying-inside = rw (f .ends) (end-inside w (slotAt b first) count (f .fits .good) i (f .upto))
 
-  pub last-done :
-      n ≤ i → (l′ : List ℕ) → Ramped l l′ at w 0
-      → (length l′ ≡ length l₀) × Upto l′ w (usable w (record { size = n; slot = slot; ours = λ _. true }))
+  pub laying-end :
+      count ≤ i → (l′ : List ℕ) (r : ℕ) → Span l n at w 0 r l′
+      → LaidIn l₀ l′ r w (usable w (record { size = count; slot = slotAt b first; ours = λ _. true }))
   unfolding bit
-  last-done end l′ r = (
-    r .long ∙ f .long,
-    ramp-total l l′ at w false _ r (f .total) (last-ramp end .order) (λ x low high.
-        gap-ticks w slot n (f .good) i x (f .upto) (rw (f .ends) at low) high (λ m. absurd (omega arith))),
-  )
+  laying-end end l′ r out =
+      come-round
+      (come-on (f .come) out (λ x low high. ap bit (gap x low high (λ m. absurd (omega arith)))))
+      (omega (arith, out .high, laying-room, f .come .long))
+      (slots-turn w _ (f .fits .some))
+      (f .fits .most)

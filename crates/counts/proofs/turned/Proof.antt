@@ -1,24 +1,26 @@
--- `counts::turned` meets its contract: a turn has at most w usable ticks. Assumes nothing.
-use mathlib.Core.Path.{ap}
-use Prim.Native.Nat.{_*_, _/_}
-use Rattle.counts.proofs.Windows.{turned-le}
-use borrow.Author.Needs.{needs}
+-- `counts::turned` meets its contract: less than a turn takes in none, and a turn has at most w usable ticks (proofs/Windows.antt).
+-- Assumes nothing.
 use native.Mathlib.Omega.{arith}
+use borrow.Author.Needs.{needs}
+use Rattle.runs.proofs.Edges.{runs-some}
+use Rattle.counts.proofs.Windows.{turned-le, turned-none, turned-all}
 use Rattle.counts.proofs.turned.Statement.{statement}
 use Rattle.counts.proofs.turned.Tie as tie
 
-div-result : tie.Need-div-result
-div-result c = search needs
+returns : tie.Need-returns
+returns c = turned-none _ _ _ (c .if1 .taken)
 
-below-requires : tie.Need-below-requires
-below-requires c κs = search needs
+div-result : tie.Need-div-result
+div-result c = omega (arith, runs-some _ _ (c .before .before .pre .0))
 
 mul-result : tie.Need-mul-result
-mul-result c = omega (arith, ap (λ n. (c .before .before .args .d) / (c .before .before .args .w) * n) (c .below .ensures .0), turned-le _ _ (c .before .before .pre .0) (c .before .before .args .d))
+mul-result c =
+    let start = c .before .before .before in
+    omega (arith, turned-le (start .args .w) (start .args .d) _ (c .below .ensures .0))
 
-returns : tie.Need-returns
-returns c = let e = ap (λ n. (c .before .before .args .d) / (c .before .before .args .w) * n) (c .below .ensures .0) in
-    (e, omega (arith, turned-le _ _ (c .before .before .pre .0) (c .before .before .args .d)))
+returns-2 : tie.Need-returns-2
+returns-2 c = turned-all _ _ _ _ (c .below .ensures)
 
 pub turned-spec : {M : Type 1} → statement M
-turned-spec = tie.close (tie.spec div-result below-requires mul-result returns)
+turned-spec =
+    tie.close (tie.spec returns div-result (λ c κs. search needs) mul-result returns-2)

@@ -5,14 +5,9 @@ use borrow.Author.Needs.{needs}
 use Rattle.fiddlequill.proofs.fiddlequill_count.Statement.{statement}
 use Rattle.fiddlequill.proofs.fiddlequill_count.Tie as tie
 
-count-requires : tie.Need-count-requires
-count-requires c κs = search needs
-
-pack-requires : tie.Need-pack-requires
-pack-requires c κs = search needs
-
 returns : tie.Need-returns
 returns c = c .pack .ensures ∙ ap₂ packed (c .before .count .ensures .0) (c .before .count .ensures .1)
 
 pub fiddlequill-count-spec : {M : Type 1} → statement M
-fiddlequill-count-spec = tie.close (tie.spec count-requires pack-requires returns)
+fiddlequill-count-spec =
+    tie.close (tie.spec (λ c κs. search needs) (λ c κs. search needs) returns)

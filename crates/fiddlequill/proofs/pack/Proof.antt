@@ -5,15 +5,10 @@ use borrow.Author.Needs.{needs}
 use Rattle.fiddlequill.proofs.pack.Statement.{statement}
 use Rattle.fiddlequill.proofs.pack.Tie as tie
 
-mul-result : tie.Need-mul-result
-mul-result c = search needs
-
-add-result : tie.Need-add-result
-add-result c = search needs
-
 returns : tie.Need-returns
 unfolding packed
 returns c = refl
 
 pub pack-spec : {M : Type 1} → statement M
-pack-spec = tie.close (tie.spec mul-result add-result returns)
+pack-spec =
+    tie.close (tie.spec (λ c. search needs) (λ c. search needs) returns)

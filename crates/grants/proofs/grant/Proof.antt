@@ -1,66 +1,51 @@
 -- `grants::grant` meets its contract: one law for each way out (proofs/Calls.antt). Assumes nothing.
 use mathlib.Core.Path.{sym, subst, _∙_}
-use Rattle.grants.specs.Grants.{Searched}
-use Rattle.grants.proofs.Calls.{handed, call-refused, call-none, call-granted}
-use borrow.Author.Needs.{needs}
 use native.Mathlib.Omega.{arith}
+use Rattle.grants.specs.Grants.{Searched}
+use Rattle.grants.proofs.Calls.{checked-good, call-refused, call-none, call-granted}
+use borrow.Author.Needs.{needs}
 use Rattle.grants.proofs.grant.Statement.{statement}
 use Rattle.grants.proofs.grant.Tie as tie
 
-refusal-requires : tie.Need-refusal-requires
-refusal-requires c κs = search needs
+find-requires : tie.Need-find-requires
+find-requires c κs =
+    let good = c .before .before .before in
+    let asked = checked-good _ _ _ _ _ _ _ _ _ (sym (good .before .before .check .ensures) ∙ good .grid .given .1) in
+    (asked .gridded, asked .within, search needs)
 
-same-length : tie.Need-same-length
-same-length c = search needs
+cast-t32 : tie.Need-cast-t32
+cast-t32 c =
+    let named = c .before .before .before .before .before in
+    let searched = named .before .before .before in
+    let good = searched .before .before .before .before in
+    let asked = checked-good _ _ _ _ _ _ _ _ _ (sym (good .before .before .check .ensures) ∙ good .grid .given .1) in
+    let found = subst (Searched _ _ _) (named .j .given .1) (searched .find .ensures) in
+    omega (arith, asked .gridded .number, found .1)
 
 returns : tie.Need-returns
-returns c = call-refused _ _ _ _ (c .before .refusal .ensures) (c .if1 .taken)
-
-find-requires : tie.Need-find-requires
-find-requires c κs = let h = handed _ _ _ (sym (c .before .before .refusal .ensures) ∙ c .before .if1 .left) in
-    ((h .some, h .most, h .task .within, h .task .painted), (h .task .needs, h .task .strips, h .number))
-
-enum-told : tie.Need-enum-told
-enum-told c = search needs
-
-enum-known-j : tie.Need-enum-known-j
-enum-known-j c = search needs
-
-give-requires : tie.Need-give-requires
-give-requires c κs = search needs
-
-cast-t26 : tie.Need-cast-t26
-cast-t26 c = let h = handed _ _ _ (sym (c .before .before .before .before .before .before .before .before .before .before .refusal .ensures) ∙ c .before .before .before .before .before .before .before .before .before .if1 .left) in
-    let found = subst (Searched _ _ _) (c .before .before .before .before .before .j .given .1) (c .before .before .before .before .before .before .before .find .ensures) in
-    omega (arith, h .number, found .1)
-
-same-length-2 : tie.Need-same-length-2
-same-length-2 c = search needs
+returns c =
+    let named = c .before in
+    call-refused _ _ _ _ _ _ _ _ (sym (named .before .before .check .ensures) ∙ named .bad .given .1)
 
 returns-2 : tie.Need-returns-2
-returns-2 c = call-none _ _ _ (sym (c .before .before .before .before .before .refusal .ensures) ∙ c .before .before .before .before .if1 .left)
-    (subst (Searched _ _ _) (c .enum-told .given .1) (c .before .before .find .ensures))
-
-same-length-3 : tie.Need-same-length-3
-same-length-3 c = search needs
+returns-2 c =
+    let searched = c .before .before .before in
+    let good = searched .before .before .before .before in
+    call-none _ _ _ _ _ _ _ _ _ (sym (good .before .before .check .ensures) ∙ good .grid .given .1)
+    (subst (Searched _ _ _) (c .enum-told .given .1) (searched .find .ensures))
 
 returns-3 : tie.Need-returns-3
-returns-3 c = call-granted _ _ _ (sym (c .before .before .before .before .before .before .before .before .before .before .refusal .ensures) ∙ c .before .before .before .before .before .before .before .before .before .if1 .left) _ _
-    (subst (Searched _ _ _) (c .before .before .before .before .before .j .given .1) (c .before .before .before .before .before .before .before .find .ensures) .0) (c .before .before .give .ensures)
+returns-3 c =
+    let given = c .before .before in
+    let named = given .before .before .before in
+    let searched = named .before .before .before in
+    let good = searched .before .before .before .before in
+    let found = subst (Searched _ _ _) (named .j .given .1) (searched .find .ensures) in
+    call-granted _ _ _ _ _ _ _ _ _ (sym (good .before .before .check .ensures) ∙ good .grid .given .1) _ _ (found .0) (given .give .ensures)
 
 pub grant-spec : {M : Type 1} → statement M
 grant-spec =
     tie.close
-    (tie.spec
-    refusal-requires
-    same-length
-    returns
-    find-requires
-    enum-told
-    enum-known-j
-    give-requires
-    cast-t26
-    same-length-2
-    returns-2
-    same-length-3
-    returns-3)
+    (tie.spec (λ c κs. search needs) (λ c. search needs) (λ c. search needs) (λ c. search needs) find-requires
+    (λ c. search needs) (λ c. search needs) (λ c κs. search needs) cast-t32 (λ c. search needs) returns (λ c. search needs)
+    returns-2 (λ c. search needs) returns-3)

@@ -1,34 +1,27 @@
--- `judge::count` meets its contract: what the gate lets in is looked at, what it shuts out gives nothing (proofs/Looks.antt).
+-- `judge::count` meets its contract: what the gate lets in is asked, what it shuts out gives nothing (proofs/Gates.antt).
 -- Assumes nothing.
 use mathlib.Core.Path.{sym, _∙_}
-use Rattle.judge.proofs.Looks.{enter-number, enter-good, enter-inside, enter-count, shut-number, shut-count}
 use borrow.Author.Needs.{needs}
-use native.Mathlib.Omega.{arith}
+use Rattle.judge.proofs.Gates.{enter-number, enter-good, enter-inside, enter-count, shut-number, shut-count}
 use Rattle.judge.proofs.count.Statement.{statement}
 use Rattle.judge.proofs.count.Tie as tie
 
-enter-requires : tie.Need-enter-requires
-enter-requires c κs = search needs
-
-enum-known-n : tie.Need-enum-known-n
-enum-known-n c = search needs
-
-enum-known-job : tie.Need-enum-known-job
-enum-known-job c = search needs
-
-look-requires : tie.Need-look-requires
-look-requires c κs = (enter-good _ _ _ _ (sym (c .before .before .before .before .enter .ensures) ∙ c .before .before .job .given .1), enter-inside _ _ _ _ (sym (c .before .before .before .before .enter .ensures) ∙ c .before .before .job .given .1), enter-good _ _ _ _ (sym (c .before .before .before .before .enter .ensures) ∙ c .before .before .job .given .1) .within .strips)
-
-cast-t11 : tie.Need-cast-t11
-cast-t11 c = omega (arith, c .before .look .ensures .few, enter-good _ _ _ _ (sym (c .before .before .before .before .before .before .enter .ensures) ∙ c .before .before .before .before .job .given .1) .within .strips)
+count-requires : tie.Need-count-requires
+count-requires c κs =
+    let entered = sym (c .before .before .before .before .enter .ensures) ∙ c .before .before .job .given .1 in
+    (enter-good _ _ _ _ entered, enter-inside _ _ _ _ entered, search needs)
 
 returns : tie.Need-returns
-returns c = (shut-number _ _ _ _ (sym (c .before .before .before .enter .ensures) ∙ c .before .n .given .1), shut-count _ _ _ _ (sym (c .before .before .before .enter .ensures) ∙ c .before .n .given .1))
+returns c =
+    let shut = sym (c .before .before .before .enter .ensures) ∙ c .before .n .given .1 in
+    (shut-number _ _ _ _ shut, shut-count _ _ _ _ shut)
 
 returns-2 : tie.Need-returns-2
-returns-2 c = (enter-number _ _ _ _ (sym (c .before .before .before .before .before .before .enter .ensures) ∙ c .before .before .before .before .job .given .1), enter-count _ _ _ _ (sym (c .before .before .before .before .before .before .enter .ensures) ∙ c .before .before .before .before .job .given .1) _ (c .before .look .ensures .dropped))
+returns-2 c =
+    let entered = sym (c .before .before .before .before .before .before .enter .ensures) ∙ c .before .before .before .before .job .given .1 in
+    (enter-number _ _ _ _ entered, enter-count _ _ _ _ entered _ (c .before .count .ensures))
 
 pub count-spec : {M : Type 1} → statement M
 count-spec =
     tie.close
-    (tie.spec enter-requires enum-known-n enum-known-job look-requires cast-t11 returns returns-2)
+    (tie.spec (λ c κs. search needs) (λ c. search needs) (λ c. search needs) (λ c. search needs) count-requires returns returns-2)

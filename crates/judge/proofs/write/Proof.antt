@@ -6,21 +6,9 @@ use borrow.Author.Needs.{needs}
 use Rattle.judge.proofs.write.Statement.{statement}
 use Rattle.judge.proofs.write.Tie as tie
 
-bytes-requires : tie.Need-bytes-requires
-bytes-requires c κs = search needs
-
-slice-aggregate-put : tie.Need-slice-aggregate-put
-slice-aggregate-put c = search needs
-
-put-requires : tie.Need-put-requires
-put-requires c κs = search needs
-
-same-length : tie.Need-same-length
-same-length c = search needs
-
 returns : tie.Need-returns
 returns c = c .before .before .put .ensures ∙ ap (λ x. over x (now (c .before .before .before .before .before .before .before .args .reply))) (c .before .before .before .before .before .bytes .ensures)
 
 pub write-spec : {M : Type 1} → statement M
 write-spec =
-    tie.close (tie.spec bytes-requires slice-aggregate-put put-requires same-length returns)
+    tie.close (tie.spec (λ c κs. search needs) (λ c. search needs) (λ c κs. search needs) (λ c. search needs) returns)

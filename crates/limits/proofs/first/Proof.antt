@@ -11,4 +11,5 @@ returns-2 : tie.Need-returns-2
 returns-2 c = sym (otherwise-some _ _ (c .if1 .left))
 
 pub first-spec : {M : Type 1} → statement M
-first-spec = tie.close (tie.spec returns returns-2)
+first-spec =
+    tie.close (tie.spec returns returns-2)

@@ -10,4 +10,5 @@ returns-2 : tie.Need-returns-2
 returns-2 c = outside-above _ _ (c .if1 .left)
 
 pub outside-spec : {M : Type 1} → statement M
-outside-spec = tie.close (tie.spec returns returns-2)
+outside-spec =
+    tie.close (tie.spec returns returns-2)

@@ -11,4 +11,5 @@ returns-2 : tie.Need-returns-2
 returns-2 c = sym (when-false _ _ (c .if1 .left))
 
 pub when-spec : {M : Type 1} → statement M
-when-spec = tie.close (tie.spec returns returns-2)
+when-spec =
+    tie.close (tie.spec returns returns-2)

@@ -1,54 +1,28 @@
 -- `lines::fields` meets its contract: five fields, each behind the one before. Assumes nothing.
 use native.Mathlib.Omega.{arith}
-use Rattle.lines.proofs.Texts.{line-fields}
+use Prim.Native.Nat.{_≤_}
+use lib.ListN.{length}
+use Rattle.lines.specs.Lines.{lineOf}
+use Rattle.lines.proofs.Texts.{put-then}
 use borrow.Author.Needs.{needs}
 use Rattle.lines.proofs.fields.Statement.{statement}
 use Rattle.lines.proofs.fields.Tie as tie
 
-four-requires : tie.Need-four-requires
-four-requires c κs = search needs
-
-two-requires : tie.Need-two-requires
-two-requires c κs = search needs
-
-two-requires-2 : tie.Need-two-requires-2
-two-requires-2 c κs = search needs
-
-four-requires-2 : tie.Need-four-requires-2
-four-requires-2 c κs = search needs
-
-four-requires-3 : tie.Need-four-requires-3
-four-requires-3 c κs = search needs
-
-same-length : tie.Need-same-length
-same-length c = search needs
-
 returns : tie.Need-returns
+unfolding lineOf
 returns c =
     let worst = c .before .before .before .before .before .before in
     let firm = worst .before .before .before .before in
     let refusal = firm .before .before .before .before in
     let id = refusal .before .before .before .before in
-    let start = id .before .before .before .before in (
-      line-fields
-          (start .args .answer .now)
-          (omega (arith, start .pre .1))
-          (id .four .ensures .0)
-          (refusal .two .ensures .0)
-          (firm .two2 .ensures .0)
-          (worst .four2 .ensures .0)
-          (c .before .before .four3 .ensures .0),
-      omega arith,
-    )
+    let start = id .before .before .before .before in
+    let room : start .args .at ≤ length (start .args .out .now) = omega (arith, start .pre .1) in
+    let two = put-then room (id .four .ensures .0) (refusal .two .ensures .0) in
+    let four = put-then room (put-then room two (firm .two2 .ensures .0)) (worst .four2 .ensures .0) in
+    (put-then room four (c .before .before .four3 .ensures .0), omega arith)
 
 pub fields-spec : {M : Type 1} → statement M
 fields-spec =
     tie.close
-    (tie.spec
-    four-requires
-    two-requires
-    two-requires-2
-    four-requires-2
-    four-requires-3
-    same-length
-    returns)
+    (tie.spec (λ c κs. search needs) (λ c κs. search needs) (λ c κs. search needs) (λ c κs. search needs) (λ c κs. search needs)
+    (λ c. search needs) returns)

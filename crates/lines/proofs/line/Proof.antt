@@ -1,6 +1,7 @@
 -- `lines::line` meets its contract: nothing is put where a length is wrong. Assumes nothing.
 use native.Mathlib.Omega.{arith}
 use lib.ListN.{length}
+use Rattle.lines.specs.Lines.{longestLine}
 use Rattle.lines.proofs.Texts.{line-short, line-whole, room, put-unfit, put-fit}
 use borrow.Author.Needs.{needs}
 use Rattle.lines.proofs.line.Statement.{statement}
@@ -8,9 +9,6 @@ use Rattle.lines.proofs.line.Tie as tie
 
 returns : tie.Need-returns
 returns c = (line-short _ _ _ (c .if1 .taken), omega arith)
-
-fits-requires : tie.Need-fits-requires
-fits-requires c κs = search needs
 
 returns-2 : tie.Need-returns-2
 returns-2 c =
@@ -21,10 +19,7 @@ fields-requires c κs =
     let start = c .before .before .before .before .before .before in
     let sized = c .before .before .before in
     let asked = c .before .before in
-    (sized .if1 .left, room 45 (length (start .args .out .now)) (start .args .at) _ (asked .fits2 .ensures) (c .before .if2 .left))
-
-same-length : tie.Need-same-length
-same-length c = search needs
+    (sized .if1 .left, room longestLine (length (start .args .out .now)) (start .args .at) _ (asked .fits2 .ensures) (c .before .if2 .left))
 
 returns-3 : tie.Need-returns-3
 returns-3 c =
@@ -35,4 +30,4 @@ returns-3 c =
 
 pub line-spec : {M : Type 1} → statement M
 line-spec =
-    tie.close (tie.spec returns fits-requires returns-2 fields-requires same-length returns-3)
+    tie.close (tie.spec returns (λ c κs. search needs) returns-2 fields-requires (λ c. search needs) returns-3)

@@ -2,13 +2,10 @@
 use native.Mathlib.Omega.{arith}
 use lib.ListN.{length}
 use Rattle.lines.proofs.Texts.{room, put-unfit, put-fit, part-room, put-part}
-use Rattle.lines.specs.Lines.{refusedLine}
+use Rattle.lines.specs.Lines.{refusedLong, refusedLine}
 use borrow.Author.Needs.{needs}
 use Rattle.lines.proofs.refused.Statement.{statement}
 use Rattle.lines.proofs.refused.Tie as tie
-
-fits-requires : tie.Need-fits-requires
-fits-requires c κs = search needs
 
 returns : tie.Need-returns
 returns c = put-unfit _ _ _ _ _ (c .before .fits2 .ensures) (c .if1 .taken)
@@ -16,34 +13,25 @@ returns c = put-unfit _ _ _ _ _ (c .before .fits2 .ensures) (c .if1 .taken)
 sub-put : tie.Need-sub-put
 sub-put c =
     let start = c .before .before .before in
-    let r = room 10 (length (start .args .out .now)) (start .args .at) _ (c .before .fits2 .ensures) (c .if1 .left) in omega arith
+    let r = room refusedLong (length (start .args .out .now)) (start .args .at) _ (c .before .fits2 .ensures) (c .if1 .left) in omega arith
 
 part-put-start : tie.Need-part-put-start
 part-put-start c =
     let start = c .before .before .before in
-    let r = room 10 (length (start .args .out .now)) (start .args .at) _ (c .before .fits2 .ensures) (c .if1 .left) in omega arith
-
-part-put-end : tie.Need-part-put-end
-part-put-end c = search needs
-
-slice-aggregate-put : tie.Need-slice-aggregate-put
-slice-aggregate-put c = search needs
+    let r = room refusedLong (length (start .args .out .now)) (start .args .at) _ (c .before .fits2 .ensures) (c .if1 .left) in omega arith
 
 put-requires : tie.Need-put-requires
 put-requires c κs =
     let start = c .before .before .before .before .before in
     let asked = c .before .before .before in
-    part-room 10 (start .args .out .now) (start .args .at) (room 10 (length (start .args .out .now)) (start .args .at) _ (asked .fits2 .ensures) (c .before .before .if1 .left))
+    part-room refusedLong (start .args .out .now) (start .args .at) (room refusedLong (length (start .args .out .now)) (start .args .at) _ (asked .fits2 .ensures) (c .before .before .if1 .left))
 
 add-result : tie.Need-add-result
 add-result c =
     let start = c .before .before .before .before .before .before .before .before in
     let asked = c .before .before .before .before .before .before in
     let roomy = c .before .before .before .before .before in
-    let r = room 10 (length (start .args .out .now)) (start .args .at) _ (asked .fits2 .ensures) (roomy .if1 .left) in omega arith
-
-same-length : tie.Need-same-length
-same-length c = search needs
+    let r = room refusedLong (length (start .args .out .now)) (start .args .at) _ (asked .fits2 .ensures) (roomy .if1 .left) in omega arith
 
 returns-2 : tie.Need-returns-2
 unfolding refusedLine
@@ -55,14 +43,5 @@ returns-2 c =
 pub refused-spec : {M : Type 1} → statement M
 refused-spec =
     tie.close
-    (tie.spec
-    fits-requires
-    returns
-    sub-put
-    part-put-start
-    part-put-end
-    slice-aggregate-put
-    put-requires
-    add-result
-    same-length
-    returns-2)
+    (tie.spec (λ c κs. search needs) returns sub-put part-put-start (λ c. search needs) (λ c. search needs) put-requires
+    add-result (λ c. search needs) returns-2)

@@ -13,4 +13,5 @@ returns-3 : tie.Need-returns-3
 returns-3 c = bad-size _ _ (c .before .if1 .left) (c .if2 .left)
 
 pub only-spec : {M : Type 1} → statement M
-only-spec = tie.close (tie.spec returns returns-2 returns-3)
+only-spec =
+    tie.close (tie.spec returns returns-2 returns-3)

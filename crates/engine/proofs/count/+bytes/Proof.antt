@@ -1,249 +1,103 @@
--- The measure is k: each call halves it. Counts of n and of n are counts of k − k % 2 (`counted-add`), and `odd` adds
--- the last strip.
+-- The measure is k. Two strips are one and one, an odd number k − 1 and one, an even number its half twice
+-- (`counted-add`); each turn is within its bounds (`turning`).
 -- Assumes nothing.
 use native.Mathlib.Omega.{arith}
-use Rattle.engine.proofs.Counts.{counted-one, counted-add, round-one, round-add, round-onward, doubling}
+use Rattle.engine.proofs.Counts.{counted-one, counted-add, swapped, turning}
 use Prim.Native.Nat.{ℕ, _<_}
 use borrow.Fn.Kinds.{In}
 use borrow.Fn.PlainCycle.{Measures, is, falls, and}
 use Rattle.engine.proofs.count.bytes.Reads as bytes
-use Rattle.engine.proofs.count.bytes.Kinds as bytes-kinds
-use Rattle.engine.proofs.count.+bytes.Lts-bytes as bytes-lts
-use Rattle.engine.proofs.count.odd.Reads as odd-reads
-use Rattle.engine.proofs.turn.double.Reads as double-reads
-use Rattle.engine.proofs.turn.onward.Reads as onward-reads
+use Rattle.engine.proofs.count.bytes.Kinds as kinds
+use Rattle.engine.proofs.count.+bytes.Lts-bytes as lts
+use Rattle.engine.proofs.turn.turned.Reads as turned-reads
 use Rattle.engine.proofs.count.+bytes.{statement}
 use Rattle.engine.proofs.count.+bytes.Tie.{close}
 
-abbrev μ-bytes : Measures 3 bytes-kinds.ps ℕ
-μ-bytes κs a = a .1 .1 .1 .1 .0
+abbrev μ : Measures 3 kinds.ps ℕ
+μ κs a = a .1 .1 .1 .1 .0
 
-abbrev bytes-at : ℕ → In 3 bytes-kinds.ps
-bytes-at t = and 3 bytes-kinds.ps (is 3 bytes-kinds.ps μ-bytes t) bytes.Pre
+module _ (t : ℕ) where
+  abbrev asked : In 3 kinds.ps
+  asked = and 3 kinds.ps (is 3 kinds.ps μ t) bytes.Pre
 
-abbrev bytes-below : ℕ → In 3 bytes-kinds.ps
-bytes-below t = and 3 bytes-kinds.ps (falls 3 bytes-kinds.ps _<_ μ-bytes t) bytes.Pre
+  abbrev claims : lts.Claims
+  claims = (turned-reads.Asked, turned-reads.Learnt, and 3 kinds.ps (falls 3 kinds.ps _<_ μ t) bytes.Pre, bytes.Post)
 
-bytes-double-requires : (t : ℕ) → bytes-lts.Need-double-requires (
-  double-reads.Asked,
-  double-reads.Learnt,
-  onward-reads.Asked,
-  onward-reads.Learnt,
-  odd-reads.Asked,
-  odd-reads.Learnt,
-  bytes-below t,
-  bytes.Post,
-) (bytes-at t) bytes.Post
-bytes-double-requires t c κs =
-    let start = c .before .before .before .before .before in
-    let pre = start .pre .1 in
-    doubling (pre .0) (counted-one _ _) (round-one (pre .0 .step)) (pre .1 .0 .0) (omega arith)
+  turned-requires : lts.Need-turned-requires claims asked bytes.Post
+  turned-requires c κs =
+      let start = c .before .before .before .before .before in
+      let pre = start .pre .1 in
+      let one = counted-one (pre .0 .step) in
+      turning (pre .0) one one (omega (arith, pre)) (omega arith)
 
-bytes-onward-requires : (t : ℕ) → bytes-lts.Need-onward-requires (
-  double-reads.Asked,
-  double-reads.Learnt,
-  onward-reads.Asked,
-  onward-reads.Learnt,
-  odd-reads.Asked,
-  odd-reads.Learnt,
-  bytes-below t,
-  bytes.Post,
-) (bytes-at t) bytes.Post
-bytes-onward-requires t c κs =
-    let wheel = c .before .before .before .before .before .before .before .before .pre .1 .0 in
-    round-onward wheel (round-one (wheel .step)) (round-one (wheel .step))
+  returns : lts.Need-returns claims asked bytes.Post
+  returns c =
+      let at-turn = c .before .before in
+      let branch = at-turn .before .before in
+      let pre = branch .before .before .before .before .pre .1 in
+      let one = counted-one (pre .0 .step) in
+      counted-add (branch .if1 .taken) (pre .0) one one (omega (arith, at-turn .turned .kept, pre)) (at-turn .turned .ensures)
 
-bytes-odd-requires : (t : ℕ) → bytes-lts.Need-odd-requires (
-  double-reads.Asked,
-  double-reads.Learnt,
-  onward-reads.Asked,
-  onward-reads.Learnt,
-  odd-reads.Asked,
-  odd-reads.Learnt,
-  bytes-below t,
-  bytes.Post,
-) (bytes-at t) bytes.Post
-bytes-odd-requires t c κs =
-    let at-double = c .before .before .before .before in
-    let branch = at-double .before .before in
-    let start = branch .before .before .before .before in
-    let pre = start .pre .1 in
-    let wheel = pre .0 in
-    let one = counted-one (start .args .half .now) (start .args .h) in
-    let step = round-one (wheel .step) in (
-      wheel,
-      (
-        counted-add (omega (arith, pre, branch .if1 .taken)) wheel one one
-            (omega (arith, at-double .double .kept, pre)) step (at-double .double .ensures),
-        (round-add (omega (arith, pre, branch .if1 .taken)) step step (c .before .onward .ensures .0), pre .1 .1 .1),
-      ),
-    )
+  bytes-requires : lts.Need-bytes-requires claims asked bytes.Post
+  bytes-requires c κs =
+      let branch = c .before .before in
+      let pre = branch .before .before .before .before .before .pre in
+      (omega (arith, pre), (pre .1 .0, omega (arith, pre, branch .if2 .taken, branch .before .if1 .left), omega (arith, pre), swapped (pre .1 .3)))
 
-bytes-same-length : (t : ℕ) → bytes-lts.Need-same-length (
-  double-reads.Asked,
-  double-reads.Learnt,
-  onward-reads.Asked,
-  onward-reads.Learnt,
-  odd-reads.Asked,
-  odd-reads.Learnt,
-  bytes-below t,
-  bytes.Post,
-) (bytes-at t) bytes.Post
-bytes-same-length t c =
-    let at-odd = c .before .before in
-    let at-double = at-odd .before .before .before .before .before in
-    omega (arith, at-odd .odd .kept, at-double .double .kept)
+  turned-requires-2 : lts.Need-turned-requires-2 claims asked bytes.Post
+  turned-requires-2 c κs =
+      let fewer = c .before .before .before .before .before .before in
+      let pre = fewer .before .before .before .before .before .before .before .before .pre .1 in
+      turning (pre .0) (fewer .bytes .ensures) (counted-one (pre .0 .step)) (omega (arith, fewer .bytes .kept, pre)) (omega (arith, pre))
 
-bytes-returns : (t : ℕ) → bytes-lts.Need-returns (
-  double-reads.Asked,
-  double-reads.Learnt,
-  onward-reads.Asked,
-  onward-reads.Learnt,
-  odd-reads.Asked,
-  odd-reads.Learnt,
-  bytes-below t,
-  bytes.Post,
-) (bytes-at t) bytes.Post
-bytes-returns t c = c .before .before .odd .ensures
+  returns-2 : lts.Need-returns-2 claims asked bytes.Post
+  returns-2 c =
+      let at-turn = c .before .before in
+      let fewer = at-turn .before .before .before .before .before .before .before in
+      let pre = fewer .before .before .before .before .before .before .before .before .pre .1 in
+      counted-add (omega arith) (pre .0) (fewer .bytes .ensures) (counted-one (pre .0 .step))
+      (omega (arith, at-turn .turned2 .kept, fewer .bytes .kept, pre)) (at-turn .turned2 .ensures)
 
-bytes-bytes-requires : (t : ℕ) → bytes-lts.Need-bytes-requires (
-  double-reads.Asked,
-  double-reads.Learnt,
-  onward-reads.Asked,
-  onward-reads.Learnt,
-  odd-reads.Asked,
-  odd-reads.Learnt,
-  bytes-below t,
-  bytes.Post,
-) (bytes-at t) bytes.Post
-bytes-bytes-requires t c κs =
-    let branch = c .before .before in
-    let start = branch .before .before .before .before in
-    let pre = start .pre in
-    (omega (arith, pre), (pre .1 .0, ((pre .1 .1 .0 .1, pre .1 .1 .0 .0), omega (arith, pre, branch .if1 .left))))
+  bytes-requires-2 : lts.Need-bytes-requires-2 claims asked bytes.Post
+  bytes-requires-2 c κs =
+      let branch = c .before .before in
+      let pre = branch .before .before .before .before .before .pre in
+      (omega (arith, pre), (pre .1 .0, omega (arith, pre, branch .if2 .left, branch .before .if1 .left), omega (arith, pre), swapped (pre .1 .3)))
 
-bytes-double-requires-2 : (t : ℕ) → bytes-lts.Need-double-requires-2 (
-  double-reads.Asked,
-  double-reads.Learnt,
-  onward-reads.Asked,
-  onward-reads.Learnt,
-  odd-reads.Asked,
-  odd-reads.Learnt,
-  bytes-below t,
-  bytes.Post,
-) (bytes-at t) bytes.Post
-bytes-double-requires-2 t c κs =
-    let at-bytes = c .before .before .before .before .before .before in
-    let start = at-bytes .before .before .before .before .before .before .before in
-    let pre = start .pre .1 in
-    let n = at-bytes .bytes in
-    doubling (pre .0) (n .ensures .0) (n .ensures .1) (omega (arith, n .kept, pre)) (omega (arith, pre))
+  turned-requires-3 : lts.Need-turned-requires-3 claims asked bytes.Post
+  turned-requires-3 c κs =
+      let half = c .before .before .before .before .before .before in
+      let pre = half .before .before .before .before .before .before .before .before .pre .1 in
+      let so-far = half .bytes2 .ensures in
+      turning (pre .0) so-far so-far (omega (arith, half .bytes2 .kept, pre)) (omega (arith, pre))
 
-bytes-onward-requires-2 : (t : ℕ) → bytes-lts.Need-onward-requires-2 (
-  double-reads.Asked,
-  double-reads.Learnt,
-  onward-reads.Asked,
-  onward-reads.Learnt,
-  odd-reads.Asked,
-  odd-reads.Learnt,
-  bytes-below t,
-  bytes.Post,
-) (bytes-at t) bytes.Post
-bytes-onward-requires-2 t c κs =
-    let at-bytes = c .before .before .before .before .before .before .before .before .before in
-    let start = at-bytes .before .before .before .before .before .before .before in
-    let n = at-bytes .bytes .ensures .1 in
-    round-onward (start .pre .1 .0) n n
-
-bytes-odd-requires-2 : (t : ℕ) → bytes-lts.Need-odd-requires-2 (
-  double-reads.Asked,
-  double-reads.Learnt,
-  onward-reads.Asked,
-  onward-reads.Learnt,
-  odd-reads.Asked,
-  odd-reads.Learnt,
-  bytes-below t,
-  bytes.Post,
-) (bytes-at t) bytes.Post
-bytes-odd-requires-2 t c κs =
-    let at-double2 = c .before .before .before .before in
-    let at-bytes = at-double2 .before .before .before .before .before .before .before in
-    let start = at-bytes .before .before .before .before .before .before .before in
-    let pre = start .pre .1 in
-    let n = at-bytes .bytes in (
-      pre .0,
-      (
-        counted-add (omega arith) (pre .0) (n .ensures .0) (n .ensures .0)
-            (omega (arith, at-double2 .double2 .kept, n .kept, pre)) (n .ensures .1) (at-double2 .double2 .ensures),
-        (round-add (omega arith) (n .ensures .1) (n .ensures .1) (c .before .onward2 .ensures .0), pre .1 .1 .1),
-      ),
-    )
-
-bytes-same-length-2 : (t : ℕ) → bytes-lts.Need-same-length-2 (
-  double-reads.Asked,
-  double-reads.Learnt,
-  onward-reads.Asked,
-  onward-reads.Learnt,
-  odd-reads.Asked,
-  odd-reads.Learnt,
-  bytes-below t,
-  bytes.Post,
-) (bytes-at t) bytes.Post
-bytes-same-length-2 t c =
-    let at-odd2 = c .before .before in
-    let at-double2 = at-odd2 .before .before .before .before .before in
-    let at-bytes = at-double2 .before .before .before .before .before .before .before in
-    omega (arith, at-odd2 .odd2 .kept, at-double2 .double2 .kept, at-bytes .bytes .kept)
-
-bytes-same-length-3 : (t : ℕ) → bytes-lts.Need-same-length-3 (
-  double-reads.Asked,
-  double-reads.Learnt,
-  onward-reads.Asked,
-  onward-reads.Learnt,
-  odd-reads.Asked,
-  odd-reads.Learnt,
-  bytes-below t,
-  bytes.Post,
-) (bytes-at t) bytes.Post
-bytes-same-length-3 t c =
-    let way = c .before .before .before .before .before .before .before .before in
-    let at-bytes = way .before .before .before .before .before .before in
-    omega (arith, at-bytes .bytes .kept)
-
-bytes-returns-2 : (t : ℕ) → bytes-lts.Need-returns-2 (
-  double-reads.Asked,
-  double-reads.Learnt,
-  onward-reads.Asked,
-  onward-reads.Learnt,
-  odd-reads.Asked,
-  odd-reads.Learnt,
-  bytes-below t,
-  bytes.Post,
-) (bytes-at t) bytes.Post
-bytes-returns-2 t c = c .before .before .odd2 .ensures
+  returns-3 : lts.Need-returns-3 claims asked bytes.Post
+  returns-3 c =
+      let at-turn = c .before .before in
+      let half = at-turn .before .before .before .before .before .before .before in
+      let pre = half .before .before .before .before .before .before .before .before .pre .1 in
+      let so-far = half .bytes2 .ensures in
+      counted-add (omega arith) (pre .0) so-far so-far (omega (arith, at-turn .turned3 .kept, half .bytes2 .kept, pre))
+      (at-turn .turned3 .ensures)
 
 pub +bytes-spec : {M : Type 1} → statement M
-+bytes-spec = close μ-bytes λ t. bytes-lts.spec (
-  double-reads.Asked,
-  double-reads.Learnt,
-  onward-reads.Asked,
-  onward-reads.Learnt,
-  odd-reads.Asked,
-  odd-reads.Learnt,
-  bytes-below t,
-  bytes.Post,
-)
-    (bytes-at t)
++bytes-spec =
+    close μ λ t.
+    lts.spec
+    (claims t)
+    (asked t)
     bytes.Post
-    (bytes-double-requires t)
-    (bytes-onward-requires t)
-    (bytes-odd-requires t)
-    (bytes-same-length t)
-    (bytes-returns t)
-    (bytes-bytes-requires t)
-    (bytes-double-requires-2 t)
-    (bytes-onward-requires-2 t)
-    (bytes-odd-requires-2 t)
-    (bytes-same-length-2 t)
-    (bytes-same-length-3 t)
-    (bytes-returns-2 t)
+    (turned-requires t)
+    (λ c. omega (arith, c))
+    (returns t)
+    (λ c. omega arith)
+    (bytes-requires t)
+    (turned-requires-2 t)
+    (λ c. omega (arith, c))
+    (λ c. omega (arith, c))
+    (returns-2 t)
+    (bytes-requires-2 t)
+    (turned-requires-3 t)
+    (λ c. omega (arith, c))
+    (λ c. omega (arith, c))
+    (returns-3 t)

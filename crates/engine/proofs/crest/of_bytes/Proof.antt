@@ -16,28 +16,13 @@ Inv-loop x m₀ at₀ from₀ m at from = (from ≤ length x) × Led x from m at
 abbrev μ-loop : tie.MeasureT-loop
 μ-loop x m₀ at₀ from₀ m at from = length x - from
 
-shared-slice-read-m : tie.Need-shared-slice-read-m Inv-loop μ-loop
-shared-slice-read-m c = omega arith
-
 loop-holds : tie.Need-loop-holds Inv-loop μ-loop
 loop-holds c = (omega arith, led-start (c .before .before .pre))
-
-block-end-requires : tie.Need-block-end-requires Inv-loop μ-loop
-block-end-requires c κs = omega arith
-
-largest-requires : tie.Need-largest-requires Inv-loop μ-loop
-largest-requires c κs = omega arith
-
-loop-less : tie.Need-loop-less Inv-loop μ-loop
-loop-less c = omega arith
 
 loop-again : tie.Need-loop-again Inv-loop μ-loop
 loop-again c =
     let looped = c .before .before .before .before in
     (omega arith, led-raised (looped .loop .inv .1) (c .before .largest .ensures) (c .if1 .taken) (omega arith))
-
-loop-less-2 : tie.Need-loop-less-2 Inv-loop μ-loop
-loop-less-2 c = omega arith
 
 loop-again-2 : tie.Need-loop-again-2 Inv-loop μ-loop
 loop-again-2 c =
@@ -47,26 +32,11 @@ loop-again-2 c =
 first-requires : tie.Need-first-requires Inv-loop μ-loop
 first-requires c κs = led-done (c .before .loop .inv .1) (c .loop-test .left)
 
-wide-requires : tie.Need-wide-requires Inv-loop μ-loop
-wide-requires c κs = search needs
-
 returns : tie.Need-returns Inv-loop μ-loop
 returns c = rw (c .wide .ensures) (c .before .first .ensures)
 
 pub of-bytes-spec : {M : Type 1} → statement M
 of-bytes-spec =
     tie.close
-    (tie.spec
-    Inv-loop
-    μ-loop
-    shared-slice-read-m
-    loop-holds
-    block-end-requires
-    largest-requires
-    loop-less
-    loop-again
-    loop-less-2
-    loop-again-2
-    first-requires
-    wide-requires
-    returns)
+    (tie.spec Inv-loop μ-loop (λ c. omega arith) loop-holds (λ c κs. omega arith) (λ c κs. omega arith) (λ c. omega arith)
+    loop-again (λ c. omega arith) loop-again-2 first-requires (λ c κs. search needs) returns)

@@ -16,28 +16,13 @@ Inv-loop x m₀ at₀ from₀ m at from = (from ≤ length x) × Led x from m at
 abbrev μ-loop : tie.MeasureT-loop
 μ-loop x m₀ at₀ from₀ m at from = length x - from
 
-shared-slice-read-m : tie.Need-shared-slice-read-m Inv-loop μ-loop
-shared-slice-read-m c = omega arith
-
 loop-holds : tie.Need-loop-holds Inv-loop μ-loop
 loop-holds c = (omega arith, led-start (c .before .before .pre))
-
-block-end-requires : tie.Need-block-end-requires Inv-loop μ-loop
-block-end-requires c κs = omega arith
-
-largest-word-requires : tie.Need-largest-word-requires Inv-loop μ-loop
-largest-word-requires c κs = omega arith
-
-loop-less : tie.Need-loop-less Inv-loop μ-loop
-loop-less c = omega arith
 
 loop-again : tie.Need-loop-again Inv-loop μ-loop
 loop-again c =
     let looped = c .before .before .before .before in
     (omega arith, led-raised (looped .loop .inv .1) (c .before .largest-word .ensures) (c .if1 .taken) (omega arith))
-
-loop-less-2 : tie.Need-loop-less-2 Inv-loop μ-loop
-loop-less-2 c = omega arith
 
 loop-again-2 : tie.Need-loop-again-2 Inv-loop μ-loop
 loop-again-2 c =
@@ -47,26 +32,11 @@ loop-again-2 c =
 first-word-requires : tie.Need-first-word-requires Inv-loop μ-loop
 first-word-requires c κs = led-done (c .before .loop .inv .1) (c .loop-test .left)
 
-wide-word-requires : tie.Need-wide-word-requires Inv-loop μ-loop
-wide-word-requires c κs = search needs
-
 returns : tie.Need-returns Inv-loop μ-loop
 returns c = rw (c .wide-word .ensures) (c .before .first-word .ensures)
 
 pub of-words-spec : {M : Type 1} → statement M
 of-words-spec =
     tie.close
-    (tie.spec
-    Inv-loop
-    μ-loop
-    shared-slice-read-m
-    loop-holds
-    block-end-requires
-    largest-word-requires
-    loop-less
-    loop-again
-    loop-less-2
-    loop-again-2
-    first-word-requires
-    wide-word-requires
-    returns)
+    (tie.spec Inv-loop μ-loop (λ c. omega arith) loop-holds (λ c κs. omega arith) (λ c κs. omega arith) (λ c. omega arith)
+    loop-again (λ c. omega arith) loop-again-2 first-word-requires (λ c κs. search needs) returns)

@@ -13,4 +13,5 @@ returns-3 : tie.Need-returns-3
 returns-3 c = after-taken _ (c .before .args .seen) (c .before .args .j) (c .if1 .left)
 
 pub after-spec : {M : Type 1} → statement M
-after-spec = tie.close (tie.spec returns returns-2 returns-3)
+after-spec =
+    tie.close (tie.spec returns returns-2 returns-3)

@@ -18,20 +18,11 @@ abbrev μ-loop : tie.MeasureT-loop
 loop-holds : tie.Need-loop-holds Inv-loop μ-loop
 loop-holds c = passed-none _ _
 
-shared-slice-read-if1 : tie.Need-shared-slice-read-if1 Inv-loop μ-loop
-shared-slice-read-if1 c = omega arith
+loop-again : tie.Need-loop-again Inv-loop μ-loop
+loop-again c = passed-more _ _ _ (c .before .before .before .loop .inv) (omega arith) (le-ltb 1 _ (c .if1 .left))
 
 returns : tie.Need-returns Inv-loop μ-loop
 returns c = passed-hit _ _ (c .before .before .before .loop .i) (omega arith) (lt-ltb 1 _ (c .if1 .taken))
-
-add-i : tie.Need-add-i Inv-loop μ-loop
-add-i c = omega arith
-
-loop-less : tie.Need-loop-less Inv-loop μ-loop
-loop-less c = omega arith
-
-loop-again : tie.Need-loop-again Inv-loop μ-loop
-loop-again c = passed-more _ _ _ (c .before .before .before .loop .inv) (omega arith) (le-ltb 1 _ (c .if1 .left))
 
 returns-2 : tie.Need-returns-2 Inv-loop μ-loop
 returns-2 c = passed-all _ _ _ (c .before .loop .inv) (omega arith)
@@ -39,13 +30,4 @@ returns-2 c = passed-all _ _ _ (c .before .loop .inv) (omega arith)
 pub bad-spec : {M : Type 1} → statement M
 bad-spec =
     tie.close
-    (tie.spec
-    Inv-loop
-    μ-loop
-    loop-holds
-    shared-slice-read-if1
-    returns
-    add-i
-    loop-less
-    loop-again
-    returns-2)
+    (tie.spec Inv-loop μ-loop loop-holds (λ c. omega arith) returns (λ c. omega arith) (λ c. omega arith) loop-again returns-2)

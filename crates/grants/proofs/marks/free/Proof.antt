@@ -18,20 +18,8 @@ abbrev μ-loop : tie.MeasureT-loop
 loop-holds : tie.Need-loop-holds Inv-loop μ-loop
 loop-holds c = numbered-none _
 
-shared-slice-read-free : tie.Need-shared-slice-read-free Inv-loop μ-loop
-shared-slice-read-free c = omega arith
-
-free-requires : tie.Need-free-requires Inv-loop μ-loop
-free-requires c κs = tt
-
 add-n : tie.Need-add-n Inv-loop μ-loop
 add-n c = omega (arith, c .before .before .before .loop .inv .few, c .free .ensures, bit-le (eqb (getD (c .before .before .before .before .before .args .marks .now) (c .before .before .before .loop .i) 0) 1))
-
-add-i : tie.Need-add-i Inv-loop μ-loop
-add-i c = omega arith
-
-loop-less : tie.Need-loop-less Inv-loop μ-loop
-loop-less c = omega arith
 
 loop-again : tie.Need-loop-again Inv-loop μ-loop
 loop-again c = numbered-more _ _ _ _ (c .before .before .before .loop .inv) (omega arith) (c .free .ensures)
@@ -42,14 +30,5 @@ returns c = numbered-all _ _ _ (c .before .loop .inv) (omega arith)
 pub free-spec : {M : Type 1} → statement M
 free-spec =
     tie.close
-    (tie.spec
-    Inv-loop
-    μ-loop
-    loop-holds
-    shared-slice-read-free
-    free-requires
-    add-n
-    add-i
-    loop-less
-    loop-again
+    (tie.spec Inv-loop μ-loop loop-holds (λ c. omega arith) (λ c κs. tt) add-n (λ c. omega arith) (λ c. omega arith) loop-again
     returns)

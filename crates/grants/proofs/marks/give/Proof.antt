@@ -19,23 +19,8 @@ abbrev μ-loop : tie.MeasureT-loop
 loop-holds : tie.Need-loop-holds Inv-loop μ-loop
 loop-holds c = giving-none _ _
 
-slice-read-mark : tie.Need-slice-read-mark Inv-loop μ-loop
-slice-read-mark c = omega arith
-
-after-requires : tie.Need-after-requires Inv-loop μ-loop
-after-requires c κs = tt
-
-slice-write-marks : tie.Need-slice-write-marks Inv-loop μ-loop
-slice-write-marks c = omega arith
-
-free-requires : tie.Need-free-requires Inv-loop μ-loop
-free-requires c κs = tt
-
 add-seen : tie.Need-add-seen Inv-loop μ-loop
 add-seen c = omega (arith, c .before .before .before .before .loop .inv .numbered .few, c .before .before .before .before .loop .inv .numbered .upto, c .free .ensures, bit-le (eqb (getD (c .before .before .before .before .loop .marks) (c .before .before .before .before .loop .i) 0) 1))
-
-add-i : tie.Need-add-i Inv-loop μ-loop
-add-i c = omega arith
 
 loop-less : tie.Need-loop-less Inv-loop μ-loop
 loop-less c = omega (arith, length-set (c .before .before .before .before .loop .marks) (c .before .before .before .before .loop .i) (c .before .after .result))
@@ -52,17 +37,5 @@ returns c = giving-all _ _ _ _ _ (c .before .loop .inv) (omega arith)
 pub give-spec : {M : Type 1} → statement M
 give-spec =
     tie.close
-    (tie.spec
-    Inv-loop
-    μ-loop
-    loop-holds
-    slice-read-mark
-    after-requires
-    slice-write-marks
-    free-requires
-    add-seen
-    add-i
-    loop-less
-    loop-again
-    same-length
-    returns)
+    (tie.spec Inv-loop μ-loop loop-holds (λ c. omega arith) (λ c κs. tt) (λ c. omega arith) (λ c κs. tt) add-seen
+    (λ c. omega arith) loop-less loop-again same-length returns)

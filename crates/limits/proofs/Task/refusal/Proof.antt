@@ -1,67 +1,26 @@
 -- `limits::Task::refusal` meets its contract: the calls give the parts of the definition. Assumes nothing.
-use Rattle.limits.specs.Limits.{taskRefusal, taskRefusalOf}
+use Rattle.limits.specs.Limits.{taskRefusal}
+use Rattle.limits.proofs.Refusals.{when-same, otherwise-same}
 use borrow.Author.Needs.{needs}
 use Rattle.limits.proofs.Task.refusal.Statement.{statement}
 use Rattle.limits.proofs.Task.refusal.Tie as tie
 
-outside-requires : tie.Need-outside-requires
-outside-requires c κs = search needs
-
-when-requires : tie.Need-when-requires
-when-requires c κs = search needs
-
-when-requires-2 : tie.Need-when-requires-2
-when-requires-2 c κs = search needs
-
-first-requires : tie.Need-first-requires
-first-requires c κs = search needs
-
-outside-requires-2 : tie.Need-outside-requires-2
-outside-requires-2 c κs = search needs
-
-when-requires-3 : tie.Need-when-requires-3
-when-requires-3 c κs = search needs
-
-first-requires-2 : tie.Need-first-requires-2
-first-requires-2 c κs = search needs
-
-outside-requires-3 : tie.Need-outside-requires-3
-outside-requires-3 c κs = search needs
-
-when-requires-4 : tie.Need-when-requires-4
-when-requires-4 c κs = search needs
-
-outside-requires-4 : tie.Need-outside-requires-4
-outside-requires-4 c κs = search needs
-
-when-requires-5 : tie.Need-when-requires-5
-when-requires-5 c κs = search needs
-
-first-requires-3 : tie.Need-first-requires-3
-first-requires-3 c κs = search needs
-
-first-requires-4 : tie.Need-first-requires-4
-first-requires-4 c κs = search needs
-
 returns : tie.Need-returns
-unfolding taskRefusal taskRefusalOf
-returns c = cc
+unfolding taskRefusal
+returns c =
+    let period = c .before in
+    let need = period .before .before .before in
+    let deadline = need .before .before in
+    let last = deadline .before .before .before in
+    otherwise-same (c .first4 .ensures) (when-same 6 (need .when4 .ensures) (need .before .outside3 .ensures))
+    (otherwise-same (period .first3 .ensures) (when-same 7 (period .before .when5 .ensures) (period .before .before .outside4 .ensures))
+    (otherwise-same (deadline .first2 .ensures) (when-same 8 (deadline .before .when3 .ensures) (deadline .before .before .outside2 .ensures))
+    (otherwise-same (last .first .ensures) (when-same 9 (last .before .before .when .ensures) (last .before .before .before .outside .ensures))
+    (last .before .when2 .ensures))))
 
 pub refusal-spec : {M : Type 1} → statement M
 refusal-spec =
     tie.close
-    (tie.spec
-    outside-requires
-    when-requires
-    when-requires-2
-    first-requires
-    outside-requires-2
-    when-requires-3
-    first-requires-2
-    outside-requires-3
-    when-requires-4
-    outside-requires-4
-    when-requires-5
-    first-requires-3
-    first-requires-4
-    returns)
+    (tie.spec (λ c κs. search needs) (λ c κs. search needs) (λ c κs. search needs) (λ c κs. search needs) (λ c κs. search needs)
+    (λ c κs. search needs) (λ c κs. search needs) (λ c κs. search needs) (λ c κs. search needs) (λ c κs. search needs)
+    (λ c κs. search needs) (λ c κs. search needs) (λ c κs. search needs) returns)

@@ -20,21 +20,12 @@ abbrev μ-loop : tie.MeasureT-loop
 loop-holds : tie.Need-loop-holds Inv-loop μ-loop
 loop-holds c = (c .before .pre, passed-none _ _ _)
 
-slot-at-requires : tie.Need-slot-at-requires Inv-loop μ-loop
-slot-at-requires c κs = omega arith
-
 slot-refusal-requires : tie.Need-slot-refusal-requires Inv-loop μ-loop
 slot-refusal-requires c κs = tt
 
 returns : tie.Need-returns Inv-loop μ-loop
 returns c = passed-bad _ _ _ _ _ _ (c .before .before .before .before .loop .inv .1) (omega arith)
     (c .before .slot-refusal .ensures ∙ ap (slotRefusal _ _) (c .before .before .slot-at .ensures)) (c .if1 .taken)
-
-add-i : tie.Need-add-i Inv-loop μ-loop
-add-i c = omega arith
-
-loop-less : tie.Need-loop-less Inv-loop μ-loop
-loop-less c = omega arith
 
 loop-again : tie.Need-loop-again Inv-loop μ-loop
 loop-again c = (
@@ -50,14 +41,5 @@ returns-2 c = passed-all _ _ _ _ _ (c .before .loop .inv .1) (omega arith)
 pub first-bad-spec : {M : Type 1} → statement M
 first-bad-spec =
     tie.close
-    (tie.spec
-    Inv-loop
-    μ-loop
-    loop-holds
-    slot-at-requires
-    slot-refusal-requires
-    returns
-    add-i
-    loop-less
-    loop-again
-    returns-2)
+    (tie.spec Inv-loop μ-loop loop-holds (λ c κs. omega arith) slot-refusal-requires returns (λ c. omega arith)
+    (λ c. omega arith) loop-again returns-2)

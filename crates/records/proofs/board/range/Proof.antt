@@ -8,11 +8,9 @@ use Rattle.records.proofs.board.range.Tie as tie
 returns : tie.Need-returns
 returns c = range-over _ _ _ (c .if1 .taken)
 
-when-requires : tie.Need-when-requires
-when-requires c κs = search needs
-
 returns-2 : tie.Need-returns-2
 returns-2 c = c .when .ensures ∙ range-rest _ _ _ (c .before .if1 .left)
 
 pub range-spec : {M : Type 1} → statement M
-range-spec = tie.close (tie.spec returns when-requires returns-2)
+range-spec =
+    tie.close (tie.spec returns (λ c κs. search needs) returns-2)

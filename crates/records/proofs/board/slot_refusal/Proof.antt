@@ -1,35 +1,20 @@
 -- `records::board::slot_refusal` meets its contract: the calls give the parts of the definition. Assumes nothing.
 use Rattle.records.specs.Refusals.{slotRefusal}
+use Rattle.limits.proofs.Refusals.{otherwise-same}
 use borrow.Author.Needs.{needs}
 use Rattle.records.proofs.board.slot_refusal.Statement.{statement}
 use Rattle.records.proofs.board.slot_refusal.Tie as tie
 
-when-requires : tie.Need-when-requires
-when-requires c κs = search needs
-
-when-requires-2 : tie.Need-when-requires-2
-when-requires-2 c κs = search needs
-
-when-requires-3 : tie.Need-when-requires-3
-when-requires-3 c κs = search needs
-
-first-requires : tie.Need-first-requires
-first-requires c κs = search needs
-
-first-requires-2 : tie.Need-first-requires-2
-first-requires-2 c κs = search needs
-
 returns : tie.Need-returns
 unfolding slotRefusal
-returns c = cc
+returns c =
+    let inside = c .before .before in
+    let long = inside .before .before in
+    let late = long .before .before in
+    otherwise-same (c .first2 .ensures) (long .when2 .ensures) (otherwise-same (c .before .first .ensures) (inside .when3 .ensures) (late .when .ensures))
 
 pub slot-refusal-spec : {M : Type 1} → statement M
 slot-refusal-spec =
     tie.close
-    (tie.spec
-    when-requires
-    when-requires-2
-    when-requires-3
-    first-requires
-    first-requires-2
+    (tie.spec (λ c κs. search needs) (λ c κs. search needs) (λ c κs. search needs) (λ c κs. search needs) (λ c κs. search needs)
     returns)

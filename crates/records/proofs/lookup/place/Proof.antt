@@ -18,21 +18,9 @@ abbrev μ-loop : tie.MeasureT-loop
 loop-holds : tie.Need-loop-holds Inv-loop μ-loop
 loop-holds c = (refl, sought-none _ _)
 
-mul-four : tie.Need-mul-four Inv-loop μ-loop
-mul-four c = omega arith
-
-four-requires : tie.Need-four-requires Inv-loop μ-loop
-four-requires c κs = omega arith
-
 returns : tie.Need-returns Inv-loop μ-loop
 unfolding has place
 returns c = sought-hit _ _ _ (c .before .before .before .loop .inv .1) (omega arith) (eq-eqb _ _ (sym (c .before .four .ensures) ∙ c .if1 .taken))
-
-add-i : tie.Need-add-i Inv-loop μ-loop
-add-i c = omega arith
-
-loop-less : tie.Need-loop-less Inv-loop μ-loop
-loop-less c = omega arith
 
 loop-again : tie.Need-loop-again Inv-loop μ-loop
 unfolding has
@@ -45,14 +33,5 @@ returns-2 c = sought-end _ _ _ (c .before .loop .inv .1) (omega arith)
 pub place-spec : {M : Type 1} → statement M
 place-spec =
     tie.close
-    (tie.spec
-    Inv-loop
-    μ-loop
-    loop-holds
-    mul-four
-    four-requires
-    returns
-    add-i
-    loop-less
-    loop-again
-    returns-2)
+    (tie.spec Inv-loop μ-loop loop-holds (λ c. omega arith) (λ c κs. omega arith) returns (λ c. omega arith) (λ c. omega arith)
+    loop-again returns-2)

@@ -1,0 +1,62 @@
+// What an accepted job answers: its slots become runs, and the runs are asked.
+ghost use mathlib.Core.Path.{_≡_};
+ghost use Prim.Native.Nat.{_*_, _≤_, _<_};
+ghost use lib.ListN.{length};
+ghost use Rattle.limits.specs.Limits.{asked, mostPeriod};
+ghost use Rattle.rules.specs.Supply.{supply, dropped, count};
+ghost use Rattle.rules.specs.Worst.{Worst};
+ghost use Rattle.records.specs.Jobs.{Good, jobTicks};
+ghost use Rattle.runs.specs.Runs.{LaidIn};
+ghost use Rattle.room.specs.Room.{mostEdges};
+use records::Job;
+use room::Peak;
+
+// Bytes to runs.
+fn lay(slots: &[u8], job: Job, runs: &mut [u16]) -> usize
+    requires { ⌜ Good (now slots) job × (length (now runs) ≡ mostEdges) ⌝ }
+    ensures { λ n. ⌜ LaidIn (now (runs .entry)) (now (runs .exit)) n (job .wheel .w) (jobTicks (now (slots .entry)) job) ⌝ }
+{
+    let wheel = job.wheel;
+    ticks::table(slots, job.first, job.count, wheel.w, runs)
+}
+
+// The worst count and offset.
+pub fn worst(slots: &[u8], job: Job, runs: &mut [u16]) -> Peak
+    requires { ⌜ Good (now slots) job × (length (now runs) ≡ mostEdges) ⌝ }
+    ensures { λ r. ⌜ Worst (job .wheel .w) (jobTicks (now (slots .entry)) job) (asked (job .task)) (r .drops) (r .offset) ⌝ }
+{
+    let wheel = job.wheel;
+    let n = lay(slots, job, runs);
+    room::worst(&runs[..n], wheel.w, job.task)
+}
+
+// The supply at half tick x, in half ticks.
+pub fn supply(slots: &[u8], job: Job, x: usize, runs: &mut [u16]) -> usize
+    requires { ⌜ Good (now slots) job × (x < 2 * job .wheel .w) × (length (now runs) ≡ mostEdges) ⌝ }
+    ensures { λ r. ⌜ (r ≡ supply 2 (jobTicks (now (slots .entry)) job) (job .task .d) x) × (r ≤ 2 * mostPeriod) ⌝ }
+{
+    let wheel = job.wheel;
+    let task = job.task;
+    let n = lay(slots, job, runs);
+    counts::supply(&runs[..n], wheel.w, x, task.d)
+}
+
+// Whether a strip at half tick x is dropped.
+pub fn dropped(slots: &[u8], job: Job, x: usize, runs: &mut [u16]) -> bool
+    requires { ⌜ Good (now slots) job × (x < 2 * job .wheel .w) × (length (now runs) ≡ mostEdges) ⌝ }
+    ensures { λ r. ⌜ r ≡ dropped 2 (jobTicks (now (slots .entry)) job) (asked (job .task)) x ⌝ }
+{
+    let wheel = job.wheel;
+    let n = lay(slots, job, runs);
+    counts::dropped(&runs[..n], wheel.w, x, job.task)
+}
+
+// How many of the k strips from half tick x are dropped.
+pub fn count(slots: &[u8], job: Job, x: usize, runs: &mut [u16]) -> u32
+    requires { ⌜ Good (now slots) job × (x < 2 * job .wheel .w) × (length (now runs) ≡ mostEdges) ⌝ }
+    ensures { λ r. ⌜ r ≡ count 2 (jobTicks (now (slots .entry)) job) (asked (job .task)) x ⌝ }
+{
+    let wheel = job.wheel;
+    let n = lay(slots, job, runs);
+    room::count(&runs[..n], wheel.w, job.task, x)
+}

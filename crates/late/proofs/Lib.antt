@@ -1,0 +1,4 @@
+pub mod Pieces
+pub mod Cursors
+pub mod Sweeps
+pub mod Round

@@ -1,0 +1,98 @@
+-- Laws of strips along a wheel: counts of a and of b strips make the count of a + b, and a count is at most its strips.
+--
+-- In order: one strip; strips in two parts; alike and bounded; strips along a map. Assumes nothing.
+use mathlib.Core.Path.{_≡_, refl, sym, ap, _∙_}
+use mathlib.Core.List.{List}
+use Prim.Native.Nat.{ℕ, zero, suc, _+_, _*_, _/_, _%_, _≤_, _<_, zero-le}
+use native.Mathlib.Nat.{add-zero, zero-add, zero-mul, add-mul, add-assoc, mod-lt, mod-eq-of-lt}
+use native.Mathlib.Nat.{mod-add-mod, mul-add, mul-left-comm, div-add-mod, add-mul-mod-self-left, mul-le-mul, le-antisymm}
+use native.Mathlib.Numerals.{add-one}
+use native.Mathlib.Omega.{arith}
+use lib.ListN.{length, getD}
+use Rattle.limits.specs.Limits.{mostPeriod, mostStrips}
+use Rattle.rules.specs.Sums.{sum}
+use Rattle.rules.proofs.Sums.{sum-cong, sum-split}
+use Rattle.maps.specs.Maps.{strips, fallen, Sized}
+
+-- ---- one strip
+
+pub strips-one : (f : ℕ → ℕ) (w h t : ℕ) → t < w → strips f w h 1 t ≡ f t
+unfolding strips sum
+strips-one f w h t l = zero-add _ ∙ ap f (rw (zero-mul, add-zero) (mod-eq-of-lt l))
+
+-- ---- strips in two parts
+
+pub strips-add :
+    (f : ℕ → ℕ) (w h a b t : ℕ) → strips f w h (a + b) t ≡ strips f w h a t + strips f w h b ((t + a * h) % w)
+unfolding strips
+strips-add f w h a b t =
+    let later : sum (λ i. f ((t + (a + i) * h) % w)) b ≡ sum (λ i. f (((t + a * h) % w + i * h) % w)) b =
+    sum-cong _ _ b (λ i l. ap f (rw (add-mul, mod-add-mod, add-assoc))) in
+    sum-split (λ i. f ((t + i * h) % w)) a b ∙ ap (λ z. sum (λ i. f ((t + i * h) % w)) a + z) later
+
+-- ---- alike and bounded
+
+pub strips-cong :
+    (f g : ℕ → ℕ) (w h n t : ℕ) → 0 < w → ((a : ℕ) → a < w → f a ≡ g a) → strips f w h n t ≡ strips g w h n t
+unfolding strips
+strips-cong f g w h n t some same = sum-cong _ _ n (λ i l. same ((t + i * h) % w) (mod-lt (t + i * h) some))
+
+-- Strips in steps of h are strips in steps of what h leaves beside whole turns.
+pub strips-turns : (f : ℕ → ℕ) (w h n t : ℕ) → strips f w (h % w) n t ≡ strips f w h n t
+unfolding strips
+strips-turns f w h n t = sum-cong _ _ n (λ i l. ap f (same i))
+  where
+    same : (i : ℕ) → (t + i * (h % w)) % w ≡ (t + i * h) % w
+    same i =
+        let e : t + i * h ≡ t + i * (h % w) + w * (i * (h / w)) =
+        omega (arith, mul-add i (w * (h / w)) (h % w), mul-left-comm i w (h / w), ap (λ x. i * x) (div-add-mod h w)) in
+        sym (ap (λ y. y % w) e ∙ add-mul-mod-self-left (t + i * (h % w)) w (i * (h / w)))
+
+pub strips-most : (f : ℕ → ℕ) (w h n t : ℕ) → ((a : ℕ) → f a ≤ 1) → strips f w h n t ≤ n
+unfolding strips sum
+strips-most f w h zero t small = zero-le
+strips-most f w h (suc n) t small =
+    let z = strips-most f w h n t small in
+    let y = small ((t + n * h) % w) in
+    omega arith
+
+-- ---- strips along a map
+
+pub fallen-none : (m : List ℕ) (h p : ℕ) → fallen m h 0 p ≡ 0
+unfolding fallen strips sum
+fallen-none m h p = refl
+
+pub fallen-more : (m : List ℕ) (h i p : ℕ) → fallen m h (i + 1) p ≡ fallen m h i p + getD m ((p + i * h) % length m) 0
+unfolding fallen strips sum
+fallen-more m h i p = rw add-one refl
+
+pub fallen-most : (m : List ℕ) (h k p : ℕ) → ((a : ℕ) → getD m a 0 ≤ 1) → fallen m h k p ≤ k
+unfolding fallen
+fallen-most m h k p bits = strips-most (λ a. getD m a 0) (length m) h k p bits
+
+-- The first i strips from p on are counted.
+pub record Counting (m : List ℕ) (h k p met i : ℕ) : Type 0 where
+  pub count : met ≡ fallen m h i p
+  pub some : i ≤ k
+
+pub count-start : (m : List ℕ) (h k p : ℕ) → Counting m h k p 0 0
+count-start m h k p = record { count = sym (fallen-none m h p); some = zero-le }
+
+pub count-next :
+    {m : List ℕ} {h k p met i b : ℕ} → Counting m h k p met i → i < k → b ≡ getD m ((p + i * h) % length m) 0
+    → Counting m h k p (met + b) (i + 1)
+count-next {m} {h} {p = p} {i = i} c less e =
+    record { count = omega (arith, c .count, fallen-more m h i p); some = omega arith }
+
+pub count-few : {m : List ℕ} {h k p met i : ℕ} → Sized m h k → Counting m h k p met i → met ≤ i
+count-few {m} {h} {p = p} {i = i} sized c = omega (arith, c .count, fallen-most m h i p (sized .bits))
+
+pub count-end :
+    {m : List ℕ} {h k p met i : ℕ} → Sized m h k → Counting m h k p met i → k ≤ i → (met ≡ fallen m h k p) × (met ≤ k)
+count-end {m} {h} {k} {p} sized c end =
+    let e : _ ≡ k = le-antisymm (c .some) end in
+    (c .count ∙ ap (λ n. fallen m h n p) e, omega (arith, count-few sized c, e))
+
+-- How far a strip lies from the first is a number that fits.
+pub step-fits : {m : List ℕ} {h k i : ℕ} → Sized m h k → i < k → i * h ≤ mostStrips * mostPeriod
+step-fits {i = i} sized less = let few : i ≤ mostStrips = omega (arith, sized .strips) in mul-le-mul few (sized .period)

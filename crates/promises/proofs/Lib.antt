@@ -1,0 +1,4 @@
+pub mod Settled
+pub mod Bounds
+pub mod Replies
+pub mod Laws

@@ -1,0 +1,124 @@
+-- What is read out of a reply is what judging says. Assumes nothing.
+use mathlib.Core.Path.{_≡_, refl, sym, _∙_}
+use mathlib.Core.Logic.{_↔_}
+use mathlib.Core.Bool.{Bool, true, false}
+use mathlib.Core.List.{List}
+use Prim.Native.Nat.{ℕ, zero, suc, _≤_, _<_}
+use native.Mathlib.Decide.{ℕ-discrete}
+use native.Mathlib.Omega.{arith}
+use borrow.Author.Tests.{le-ltb}
+use lib.ListN.{length, getD}
+use mir.Syntax.{w8}
+use mir.Val.{Fits}
+use Rattle.rules.specs.Sums.{bit}
+use Rattle.rules.specs.Worst.{Worst, Firm}
+use Rattle.octets.specs.Octets.{le2, le4, over}
+use Rattle.limits.proofs.Refusals.{when-false, otherwise-none, otherwise-some}
+use Rattle.records.specs.Records.{replyBytes, taskRecord, ticksOf, askedOf, answerBytes}
+use Rattle.records.specs.Refusals.{sizes, room, bodyRefusal, judgeRefusal}
+use Rattle.records.proofs.Parts.{sizes-one}
+use Rattle.records.proofs.Accepts.{body-high}
+use Rattle.judge.specs.Judge.{Judged, Answered}
+use Rattle.promises.specs.Answers.{Told}
+use Rattle.promises.specs.declared.read.Answer.{Answer}
+use Rattle.promises.proofs.Bounds.{back2, back4, worst-small, body-low}
+
+-- ---- the fields of an answer record at the start of a buffer
+
+record Fields (i n f c o : ℕ) (after : List ℕ) : Type 0 where
+  id : le4 after 0 ≡ i
+  refusal : le2 after 4 ≡ n
+  firm : le2 after 6 ≡ f
+  drops : le4 after 8 ≡ c
+  offset : le4 after 12 ≡ o
+
+fields :
+    (i n f c o : ℕ) (b : List ℕ) → i < 4294967296 → n < 65536 → f < 65536 → c < 4294967296 → o < 4294967296
+    → Fields i n f c o (over (answerBytes i n f c o) b)
+unfolding over
+fields i n f c o b li ln lf lc lo =
+    record { id = back4 i li; refusal = back2 n ln; firm = back2 f lf; drops = back4 c lc; offset = back4 o lo }
+
+one-bit : (b : Bool) {A : Type 0} → (b ≡ true) ↔ A → (bit b ≤ 1) × ((bit b ≡ 1) ↔ A)
+unfolding bit
+one-bit true p = (omega arith, (λ _. p .0 refl, λ _. refl))
+one-bit false {A} p =
+    let never : A → ⊥ = λ a. let z : false ≡ true = p .1 a in let n : _≡_ {A = ℕ} 0 1 = cc in omega arith in
+    (omega arith, (λ z. absurd (omega arith), λ a. absurd (never a)))
+
+-- ---- what judging wrote, in numbers
+
+record Written (task slots : List ℕ) (n : ℕ) (after : List ℕ) : Type 0 where
+  firm : ℕ
+  drops : ℕ
+  offset : ℕ
+  fields : Fields (taskRecord task .id) n firm drops offset after
+  worst : n ≡ 0 → Worst (taskRecord task .w) (ticksOf (taskRecord task) slots) (askedOf (taskRecord task)) drops offset
+  said : n ≡ 0 → (firm ≤ 1) × ((firm ≡ 1) ↔ Firm (ticksOf (taskRecord task) slots) (askedOf (taskRecord task)))
+  none : 1 < n → (firm ≡ 0) × (drops ≡ 0) × (offset ≡ 0)
+
+-- With room for an answer, what the sizes don't refuse is refused by the record alone.
+from-body :
+    (task slots reply : List ℕ) → replyBytes ≤ length reply → (judgeRefusal task slots reply ≡ 1 → ⊥)
+    → judgeRefusal task slots reply ≡ bodyRefusal (taskRecord task) slots
+unfolding judgeRefusal room
+from-body task slots reply long other = go (ℕ-discrete (sizes task slots) 0)
+  where
+    go : Dec (sizes task slots ≡ 0) → judgeRefusal task slots reply ≡ bodyRefusal (taskRecord task) slots
+    go (yes good) = otherwise-none _ _ good ∙ otherwise-none _ _ (when-false 2 _ (le-ltb _ _ long))
+    go (no bad) = absurd (other (otherwise-some _ _ bad ∙ sizes-one task slots bad))
+
+module _ (task slots reply after : List ℕ) (byte : (i : ℕ) → Fits w8 (getD task i 0)) where
+  small : le4 task 0 < 4294967296
+  small = omega (arith, byte 0, byte 1, byte 2, byte 3)
+
+  wrote-answer : bodyRefusal (taskRecord task) slots ≡ 0 → Answered task slots reply after → Written task slots 0 after
+  wrote-answer good a =
+      let sizes = worst-small (taskRecord task) slots (a .drops) (a .offset) good (a .worst) in
+      let firm = one-bit (a .firm) (a .said) in
+      record {
+        firm = bit (a .firm);
+        drops = a .drops;
+        offset = a .offset;
+        fields = rw (a .bytes) (fields _ _ _ _ _ reply small (omega arith) (omega (arith, firm .0)) (omega (arith, sizes .0)) (omega (arith, sizes .1)));
+        worst = λ _. a .worst;
+        said = λ _. firm;
+        none = λ less. absurd (omega arith);
+      }
+
+  wrote-refusal :
+      (n : ℕ) → 2 < n → n ≤ 10 → after ≡ over (answerBytes (taskRecord task .id) n 0 0 0) reply → Written task slots n after
+  wrote-refusal n more most bytes =
+      record {
+        firm = 0;
+        drops = 0;
+        offset = 0;
+        fields = rw bytes (fields _ n 0 0 0 reply small (omega arith) (omega arith) (omega arith) (omega arith));
+        worst = λ z. absurd (omega arith);
+        said = λ z. absurd (omega arith);
+        none = λ _. (refl, refl, refl);
+      }
+
+  wrote : (n : ℕ) → n ≡ bodyRefusal (taskRecord task) slots → Judged task slots reply n after → Written task slots n after
+  wrote zero e j = wrote-answer (sym e) (j .answered refl)
+  wrote (suc n) e j =
+      let more : 2 < suc n = body-high (taskRecord task) slots (suc n) e (λ z. omega arith) in
+      wrote-refusal (suc n) more (omega (arith, body-low (taskRecord task) slots)) (j .refused more)
+
+  pub told :
+      (a : Answer) → replyBytes ≤ length reply → Judged task slots reply (a .number) after → a .id ≡ le4 after 0
+      → a .refusal ≡ le2 after 4 → a .firm ≡ le2 after 6 → a .drops ≡ le4 after 8 → a .offset ≡ le4 after 12 → Told task slots reply a
+  told a long j id refusal firm drops offset =
+      record {
+        number = j .number;
+        id = λ other. id ∙ read other .fields .id;
+        refusal = λ other. refusal ∙ read other .fields .refusal;
+        worst = λ z. let w = read (λ one. omega arith) in rw (drops ∙ w .fields .drops, offset ∙ w .fields .offset) (w .worst z);
+        firm = λ z. let w = read (λ one. omega arith) in rw (firm ∙ w .fields .firm) (w .said z);
+        zero = λ more.
+            let w = read (λ one. omega arith) in
+            rw (firm ∙ w .fields .firm, drops ∙ w .fields .drops, offset ∙ w .fields .offset) (w .none more);
+      }
+    where
+      read : (a .number ≡ 1 → ⊥) → Written task slots (a .number) after
+      read other = wrote (a .number) (j .number ∙ from-body task slots reply long (λ one. other (j .number ∙ one))) j

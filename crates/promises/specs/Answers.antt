@@ -1,0 +1,21 @@
+-- What a caller reads out of the reply of judging. Definitions only.
+--
+--     Told task slots reply a    the answer a is the rules': worst count, worst offset and firm, or the refusal; reply is the buffer before
+use mathlib.Core.Path.{_≡_}
+use mathlib.Core.Logic.{_↔_}
+use mathlib.Core.List.{List}
+use Prim.Native.Nat.{ℕ, _≤_, _<_}
+use Rattle.rules.specs.Worst.{Worst, Firm}
+use Rattle.records.specs.Records.{taskRecord, ticksOf, askedOf}
+use Rattle.records.specs.Refusals.{judgeRefusal}
+use Rattle.promises.specs.declared.read.Answer.{Answer}
+
+-- Number 1 writes nothing, so nothing is told.
+pub record Told (task slots reply : List ℕ) (a : Answer) : Type 0 where
+  pub number : a .number ≡ judgeRefusal task slots reply
+  pub id : (a .number ≡ 1 → ⊥) → a .id ≡ taskRecord task .id
+  pub refusal : (a .number ≡ 1 → ⊥) → a .refusal ≡ a .number
+  pub worst :
+      a .number ≡ 0 → Worst (taskRecord task .w) (ticksOf (taskRecord task) slots) (askedOf (taskRecord task)) (a .drops) (a .offset)
+  pub firm : a .number ≡ 0 → (a .firm ≤ 1) × ((a .firm ≡ 1) ↔ Firm (ticksOf (taskRecord task) slots) (askedOf (taskRecord task)))
+  pub zero : 1 < a .number → (a .firm ≡ 0) × (a .drops ≡ 0) × (a .offset ≡ 0)

@@ -1,0 +1,40 @@
+-- What follows for callers from the contracts, shown in proofs/Laws.antt. Definitions only: each name is a statement.
+--
+--     CountCertain    a task that was judged is counted from every half tick of the wheel
+--     WorstCounted    counting at the worst offset gives the worst count, and no half tick gives more
+--     GrantNone       a grant is of no slots exactly when m is 0, and then no mark moves
+--     GrantCertain    the task is granted where nothing is refused and all free slots together are firm
+use mathlib.Core.Path.{_≡_}
+use mathlib.Core.Logic.{_↔_}
+use mathlib.Core.List.{List}
+use Prim.Native.Nat.{ℕ, _*_, _≤_, _<_}
+use lib.ListN.{length}
+use Rattle.rules.specs.Worst.{Worst, Firm}
+use Rattle.rules.specs.Grant.{gridTicks}
+use Rattle.records.specs.Records.{taskRecord, ticksOf, askedOf}
+use Rattle.records.specs.Refusals.{judgeRefusal, pointRefusal}
+use Rattle.ticks.specs.Ticks.{freeOf}
+use Rattle.judge.specs.Points.{countedAt}
+use Rattle.grants.specs.Grants.{grantRefusal, askedFor, GrantCall}
+
+abbrev pub CountCertain : Type 0
+CountCertain =
+    (task slots reply : List ℕ) (x : ℕ)
+    → judgeRefusal task slots reply ≡ 0 → x < 2 * taskRecord task .w → pointRefusal task slots x ≡ 0
+
+abbrev pub WorstCounted : Type 0
+WorstCounted =
+    (task slots reply : List ℕ) (c o : ℕ)
+    → judgeRefusal task slots reply ≡ 0 → Worst (taskRecord task .w) (ticksOf (taskRecord task) slots) (askedOf (taskRecord task)) c o
+    → (countedAt task slots o ≡ c) × ((x : ℕ) → countedAt task slots x ≤ c)
+
+abbrev pub GrantNone : Type 0
+GrantNone =
+    (l : List ℕ) (v e D h m k j : ℕ) (after : List ℕ)
+    → GrantCall l v e D h m k 0 j after → ((j ≡ 0) ↔ (m ≡ 0)) × (m ≡ 0 → after ≡ l)
+
+abbrev pub GrantCertain : Type 0
+GrantCertain =
+    (l : List ℕ) (v e D h m k n j : ℕ) (after : List ℕ)
+    → GrantCall l v e D h m k n j after → grantRefusal l v e D h m k ≡ 0
+    → Firm (gridTicks (length l) v (freeOf l)) (askedFor e D h m k) → n ≡ 0

@@ -1,0 +1,66 @@
+-- docs/RULES.md, the demands: any two results that a public contract allows are equal, with every lent buffer at exit.
+-- Definitions only: a statement for each public function; proofs/Settled.antt shows them.
+use mathlib.Core.Path.{_≡_}
+use mathlib.Core.List.{List}
+use Prim.Native.Nat.{ℕ}
+use Rattle.records.specs.Refusals.{pointRefusal}
+use Rattle.records.specs.Lookup.{lookedUp}
+use Rattle.judge.specs.Judge.{Judged}
+use Rattle.judge.specs.Points.{suppliedAt, droppedAt, countedAt}
+use Rattle.grants.specs.Grants.{GrantCall}
+use Rattle.lines.specs.Lines.{Put}
+use Rattle.sheets.specs.Sheets.{Filled}
+use Rattle.fiddlequill.specs.Packed.{packed, PackedGrant}
+
+-- judge::judge, fiddlequill_judge: the number and the reply.
+abbrev pub JudgeSettled : Type 0
+JudgeSettled =
+    (task slots reply : List ℕ) (n n′ : ℕ) (after after′ : List ℕ)
+    → Judged task slots reply n after → Judged task slots reply n′ after′ → (n ≡ n′) × (after ≡ after′)
+
+-- judge::supply, judge::drop_test, judge::count: the number and the value beside it.
+abbrev pub PointSettled : {A : Type 0} → (List ℕ → List ℕ → ℕ → A) → Type 0
+PointSettled {A} value =
+    (task slots : List ℕ) (x n n′ : ℕ) (a a′ : A)
+    → (n ≡ pointRefusal task slots x) × (a ≡ value task slots x)
+    → (n′ ≡ pointRefusal task slots x) × (a′ ≡ value task slots x) → (n ≡ n′) × (a ≡ a′)
+
+abbrev pub PointsSettled : Type 0
+PointsSettled = PointSettled suppliedAt × PointSettled droppedAt × PointSettled countedAt
+
+-- fiddlequill_count: the packed number.
+abbrev pub CountSettled : Type 0
+CountSettled =
+    (task slots : List ℕ) (x r r′ : ℕ)
+    → r ≡ packed (pointRefusal task slots x) (countedAt task slots x)
+    → r′ ≡ packed (pointRefusal task slots x) (countedAt task slots x) → r ≡ r′
+
+-- grants::grant: the number, j and the marks.
+abbrev pub GrantSettled : Type 0
+GrantSettled =
+    (l : List ℕ) (v e D h m k n n′ j j′ : ℕ) (after after′ : List ℕ)
+    → GrantCall l v e D h m k n j after → GrantCall l v e D h m k n′ j′ after′ → (n ≡ n′) × (j ≡ j′) × (after ≡ after′)
+
+-- fiddlequill_grant: the packed number and the marks.
+abbrev pub PackedSettled : Type 0
+PackedSettled =
+    (l : List ℕ) (v e D h m k r r′ : ℕ) (after after′ : List ℕ)
+    → PackedGrant l v e D h m k r after → PackedGrant l v e D h m k r′ after′ → (r ≡ r′) × (after ≡ after′)
+
+-- records::lookup: the part.
+abbrev pub LookupSettled : Type 0
+LookupSettled =
+    (site factory : List ℕ) (id : ℕ) (part part′ : List ℕ)
+    → part ≡ lookedUp site factory id → part′ ≡ lookedUp site factory id → part ≡ part′
+
+-- lines::line, lines::refused: the place behind the text, and the buffer.
+abbrev pub PutSettled : Type 0
+PutSettled =
+    (text out : List ℕ) (at n n′ : ℕ) (after after′ : List ℕ)
+    → Put text out at n after → Put text out at n′ after′ → (n ≡ n′) × (after ≡ after′)
+
+-- sheets::sheet: the sheet's length, and the text.
+abbrev pub SheetSettled : Type 0
+SheetSettled =
+    (tasks slots out : List ℕ) (n n′ : ℕ) (after after′ : List ℕ)
+    → Filled tasks slots out n after → Filled tasks slots out n′ after′ → (n ≡ n′) × (after ≡ after′)

@@ -1,0 +1,3 @@
+// What callers may rely on, shown from the public contracts alone.
+pub mod read;
+pub mod twice;

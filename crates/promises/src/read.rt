@@ -1,0 +1,61 @@
+// The C calls' answers taken apart as their callers do it: what is read is what the rules say.
+ghost use mathlib.Core.Path.{_≡_};
+ghost use Prim.Native.Nat.{_/_, _%_, _≤_};
+ghost use lib.ListN.{length};
+ghost use Rattle.records.specs.Records.{replyBytes};
+ghost use Rattle.records.specs.Refusals.{pointRefusal};
+ghost use Rattle.judge.specs.Points.{countedAt};
+ghost use Rattle.grants.specs.Grants.{GrantCall};
+ghost use Rattle.promises.specs.Answers.{Told};
+
+// The number that judging gives, and the fields of the answer record.
+pub struct Answer {
+    pub number: u32,
+    pub id: usize,
+    pub refusal: usize,
+    pub firm: usize,
+    pub drops: usize,
+    pub offset: usize,
+}
+
+// The two numbers of a packed result.
+pub struct Pair {
+    pub number: u32,
+    pub value: u32,
+}
+
+fn unpack(packed: u64) -> Pair
+    ensures { λ r. ⌜ (r .number ≡ packed / 4294967296) × (r .value ≡ packed % 4294967296) ⌝ }
+{
+    Pair {
+        number: (packed / 4294967296) as u32,
+        value: (packed % 4294967296) as u32,
+    }
+}
+
+pub fn judge(task: &[u8], slots: &[u8], reply: &mut [u8]) -> Answer
+    requires { ⌜ replyBytes ≤ length (now reply) ⌝ }
+    ensures { λ r. ⌜ Told (now (task .entry)) (now (slots .entry)) (now (reply .entry)) r ⌝ }
+{
+    let number = fiddlequill::fiddlequill_judge(task, slots, reply);
+    Answer {
+        number,
+        id: octets::four(reply, 0),
+        refusal: octets::two(reply, 4),
+        firm: octets::two(reply, 6),
+        drops: octets::four(reply, 8),
+        offset: octets::four(reply, 12),
+    }
+}
+
+pub fn count(task: &[u8], slots: &[u8], offset: u64) -> Pair
+    ensures { λ r. ⌜ (r .number ≡ pointRefusal (now (task .entry)) (now (slots .entry)) offset) × (r .value ≡ countedAt (now (task .entry)) (now (slots .entry)) offset) ⌝ }
+{
+    unpack(fiddlequill::fiddlequill_count(task, slots, offset))
+}
+
+pub fn grant(marks: &mut [u8], v: u64, e: u64, d: u64, h: u64, m: u64, k: u64) -> Pair
+    ensures { λ r. ⌜ GrantCall (now (marks .entry)) v e d h m k (r .number) (r .value) (now (marks .exit)) ⌝ }
+{
+    unpack(fiddlequill::fiddlequill_grant(marks, v, e, d, h, m, k))
+}

@@ -1,0 +1,103 @@
+-- Each way out of checking a task record on a slot buffer: the wheel with its table, then the task. Assumes nothing.
+use mathlib.Core.Path.{_≡_, refl, sym, ap, _∙_}
+use mathlib.Core.Logic.{⊎-elim}
+use mathlib.Core.List.{List}
+use Prim.Native.Nat.{ℕ, _≤_, _<_}
+use native.Mathlib.Omega.{arith}
+use borrow.Author.Tests.{lt-ltb, le-ltb}
+use Rattle.rules.specs.Usable.{Slot}
+use Rattle.limits.specs.Limits.{mostSlots, madeWheel, madeTask}
+use Rattle.limits.specs.declared.Wheel.{Wheel}
+use Rattle.limits.specs.declared.Task.{Task}
+use Rattle.limits.specs.declared.WheelMade.the-variants as wheelMade
+use Rattle.limits.specs.declared.TaskMade.the-variants as taskMade
+use Rattle.limits.proofs.Refusals.{at-first, at-next, when-true, when-false, made-is, refused-is, either}
+use Rattle.limits.proofs.Made.{never, wheel-made, wheel-refused, task-made, task-refused}
+use Rattle.records.specs.Records.{slotAt}
+use Rattle.records.specs.Refusals.{range, firstBad, tableRefusal, slotsRefusal, boardRefusal, bodyRefusal, boarded, jobOf, checked}
+use Rattle.records.specs.declared.TaskRecord.{TaskRecord}
+use Rattle.records.specs.declared.Job.{Job}
+use Rattle.records.specs.declared.Checked.the-variants.{Accepted, Refused}
+
+-- ---- the table
+
+pub table-long : (w : ℕ) (slot : ℕ → Slot) (n : ℕ) → mostSlots < n → 5 ≡ tableRefusal w slot n
+unfolding tableRefusal
+table-long w slot n l = at-first _ _ _ (sym (when-true 5 _ (lt-ltb mostSlots n l))) (λ z. omega arith)
+
+pub table-bad : (w : ℕ) (slot : ℕ → Slot) (n x : ℕ) → n ≤ mostSlots → x ≡ firstBad w slot n → x ≡ tableRefusal w slot n
+unfolding tableRefusal
+table-bad w slot n x l e = at-next _ _ _ (when-false 5 _ (le-ltb mostSlots n l)) e
+
+module _ (r : TaskRecord) (l : List ℕ) where
+  -- ---- the wheel with its table
+
+  pub board-far : (n : ℕ) → n ≡ range r l → (n ≡ 0 → ⊥) → wheelMade.Refused n ≡ boarded r l
+  unfolding boarded boardRefusal
+  board-far n e bad = refused-is wheelMade.Refused _ (at-first _ _ _ e bad) bad
+
+  pub board-wheel : (n : ℕ) → range r l ≡ 0 → madeWheel (r .w) ≡ wheelMade.Refused n → wheelMade.Refused n ≡ boarded r l
+  unfolding boarded boardRefusal
+  board-wheel n far e =
+      let p = wheel-refused (r .w) n e in
+      refused-is wheelMade.Refused _ (at-next _ _ _ far (at-first _ _ _ (p .0) (p .1))) (p .1)
+
+  module _
+      (n : ℕ) (x : Wheel) (far : range r l ≡ 0) (made : madeWheel (r .w) ≡ wheelMade.Made x)
+      (e : n ≡ tableRefusal (x .w) (slotAt l (r .first)) (r .count))
+    where
+      behind : n ≡ boardRefusal r l
+      unfolding boardRefusal slotsRefusal
+      behind =
+          let p = wheel-made (r .w) x made in
+          at-next _ _ _ far (at-next _ _ _ (p .0) (rw (p .1) at e))
+
+      pub board-table : (n ≡ 0 → ⊥) → wheelMade.Refused n ≡ boarded r l
+      unfolding boarded
+      board-table bad = refused-is wheelMade.Refused _ behind bad
+
+      pub board-good : n ≡ 0 → wheelMade.Made x ≡ boarded r l
+      unfolding boarded
+      board-good z = ap wheelMade.Made (wheel-made (r .w) x made .1) ∙ made-is _ _ behind z
+
+  board-made : (x : Wheel) → boarded r l ≡ wheelMade.Made x → (boardRefusal r l ≡ 0) × (x ≡ record { w = r .w })
+  unfolding boarded
+  board-made x e = ⊎-elim (λ p. (p .0, cc)) (λ p. never (cc)) (either _ _ _ e)
+
+  board-refused : (n : ℕ) → boarded r l ≡ wheelMade.Refused n → (n ≡ boardRefusal r l) × (n ≡ 0 → ⊥)
+  unfolding boarded
+  board-refused n e = ⊎-elim (λ p. never (cc)) (λ p. (cc, λ z. p .0 (cc))) (either _ _ _ e)
+
+  -- ---- the whole record
+
+  pub check-board : (n : ℕ) → boarded r l ≡ wheelMade.Refused n → Refused n ≡ checked r l
+  unfolding checked bodyRefusal
+  check-board n e =
+      let p = board-refused n e in
+      refused-is Refused _ (at-first _ _ _ (p .0) (p .1)) (p .1)
+
+  module _ (x : Wheel) (board : boarded r l ≡ wheelMade.Made x) where
+    pub check-task : (n : ℕ) → madeTask (r .e) (r .d) (r .h) (r .m) (r .k) ≡ taskMade.Refused n → Refused n ≡ checked r l
+    unfolding checked bodyRefusal
+    check-task n e =
+        let p = task-refused _ _ _ _ _ n e in
+        refused-is Refused _ (at-next _ _ _ (board-made x board .0) (p .0)) (p .1)
+
+    pub check-good :
+        (t : Task) → madeTask (r .e) (r .d) (r .h) (r .m) (r .k) ≡ taskMade.Made t
+        → Accepted (record { wheel = x; first = r .first; count = r .count; task = t }) ≡ checked r l
+    unfolding checked bodyRefusal
+    check-good t e =
+        let b = board-made x board in
+        let p = task-made _ _ _ _ _ t e in
+        ap Accepted (λ i. record { wheel = b .1 i; first = r .first; count = r .count; task = p .1 i })
+        ∙ made-is _ _ (at-next _ _ _ (b .0) (sym (p .0))) refl
+
+  -- And back: an accepted record has no refusal and is the job asked for; a refused one has its number.
+  pub checked-accepted : (j : Job) → checked r l ≡ Accepted j → (bodyRefusal r l ≡ 0) × (j ≡ jobOf r)
+  unfolding checked
+  checked-accepted j e = ⊎-elim (λ p. (p .0, cc)) (λ p. never (cc)) (either _ _ _ e)
+
+  pub checked-refused : (n : ℕ) → checked r l ≡ Refused n → (n ≡ bodyRefusal r l) × (n ≡ 0 → ⊥)
+  unfolding checked
+  checked-refused n e = ⊎-elim (λ p. never (cc)) (λ p. (cc, λ z. p .0 (cc))) (either _ _ _ e)

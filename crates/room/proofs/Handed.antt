@@ -1,0 +1,42 @@
+-- Runs that were laid out in a buffer of the room's size are runs that the room takes, and what it answers holds of each set of ticks that they
+-- lay out. Assumes nothing.
+use mathlib.Core.Path.{_≡_}
+use mathlib.Core.Logic.{_↔_}
+use mathlib.Core.Bool.{true}
+use mathlib.Core.List.{List}
+use Prim.Native.Nat.{ℕ, _≤_}
+use native.Mathlib.Omega.{arith}
+use lib.ListN.{length, take}
+use lib.Seq.{length-take-le}
+use Rattle.rules.specs.Sums.{Subset}
+use Rattle.rules.specs.Supply.{count}
+use Rattle.rules.specs.Worst.{Worst, Firm, firmTest}
+use Rattle.limits.specs.Limits.{asked}
+use Rattle.limits.specs.declared.Task.{Task}
+use Rattle.runs.specs.Runs.{Laid, Runs, LaidIn}
+use Rattle.runs.proofs.Edges.{runs-of}
+use Rattle.room.specs.Room.{mostEdges, Found, Judges, Tallied}
+use Rattle.room.specs.declared.Peak.{Peak}
+
+pub handed :
+    {l l′ : List ℕ} {n w : ℕ} {u : Subset} → LaidIn l l′ n w u → length l ≡ mostEdges
+    → Runs (take n l′) w × (length (take n l′) ≤ mostEdges)
+handed {l} {l′} {n} laid long =
+    (runs-of (laid .laid), omega (arith, length-take-le n l′ (laid .room), laid .room, laid .long))
+
+pub found :
+    (l : List ℕ) (w : ℕ) (t : Task) (r : Peak) → Found l w t r → (u : Subset) → Laid l w u
+    → Worst w u (asked t) (r .drops) (r .offset)
+unfolding Found
+found l w t r f = f
+
+pub judged :
+    (l : List ℕ) (w : ℕ) (t : Task) (c : ℕ) → Judges l w t c → (u : Subset) → Laid l w u
+    → (firmTest (asked t) c ≡ true) ↔ Firm u (asked t)
+unfolding Judges
+judged l w t c f = f
+
+pub tallied :
+    (l : List ℕ) (w : ℕ) (t : Task) (x c : ℕ) → Tallied l w t x c → (u : Subset) → Laid l w u → c ≡ count 2 u (asked t) x
+unfolding Tallied
+tallied l w t x c f = f

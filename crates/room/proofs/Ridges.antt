@@ -1,0 +1,208 @@
+-- From the largest count half a tick after a tick to the worst count and offset, and to the verdict.
+--
+-- A strip dropped at a tick is dropped half a tick before and after it, so only odd half ticks can be worse than all before them, and half
+-- tick 0, before which there is none.
+-- In order: the ridge of late runs; no half tick is above it, and offsets; what is found; the verdict. Assumes nothing.
+use mathlib.Core.Path.{_≡_, refl, sym, _∙_}
+use mathlib.Core.List.{List}
+use Prim.Native.Nat.{ℕ, zero, suc, _+_, _-_, _*_, _/_, _%_, _≤_, _<_}
+use native.Mathlib.Nat.{le-refl, le-antisymm, mod-lt, mul-zero, zero-mul, add-zero}
+use native.Mathlib.Omega.{arith}
+use lib.ListN.{length, take}
+use lib.Seq.{length-take-le}
+use borrow.Author.Tests.{leb-true}
+use Rattle.rules.specs.Sums.{Subset, bit}
+use Rattle.rules.specs.Supply as rules
+use Rattle.rules.specs.Supply.{dropped, drops, count}
+use Rattle.rules.specs.Worst.{Wheel, Worst, Firm, firmTest}
+use Rattle.rules.proofs.Sums.{sum-const, number-longer, number-more, number-none}
+use Rattle.rules.proofs.Zones.{count-after, count-before}
+use Rattle.rules.proofs.Worst.{worst-of-best, worst-exists, firm-agrees}
+use Rattle.limits.specs.Limits.{asked, mostTicks}
+use Rattle.limits.specs.declared.Task.{Task}
+use Rattle.runs.specs.Runs.{edge, Laid, Runs}
+use Rattle.runs.proofs.Edges.{edge-past}
+use Rattle.maps.specs.Maps.{Drawn, Top, strips}
+use Rattle.late.specs.Late.{LateIn}
+use Rattle.room.specs.Room.{Lent, Largest, met, Topped, Highest, Found, Judges, Tallied}
+use Rattle.room.proofs.Sides.{from-side, met-drawn}
+
+-- ---- the ridge of late runs
+
+largest-same : {f g : ℕ → ℕ} {w c a : ℕ} → ((i : ℕ) → i < w → f i ≡ g i) → Largest f w c a → Largest g w c a
+largest-same same top =
+    record {
+      bound = λ i s. rw (same i s) at (top .bound i s);
+      inside = top .inside;
+      hit = sym (same _ (top .inside)) ∙ top .hit;
+      least = λ i s. rw (same i (omega (arith, top .inside))) at (top .least i s);
+    }
+
+strips-none : (f : ℕ → ℕ) (w h k i : ℕ) → 0 < w → ((a : ℕ) → a < w → f a ≡ 0) → strips f w h k i ≡ 0
+unfolding strips
+strips-none f w h k i some zeros = sum-const _ 0 k (λ n _. zeros ((i + n * h) % w) (mod-lt (i + n * h) some)) ∙ mul-zero k
+
+-- Without runs no tick is met.
+pub topped-none : (l : List ℕ) (w h k : ℕ) → length l ≡ 0 → Topped l w h k 0 0
+unfolding Topped met edge
+topped-none l w h k none z laid =
+    largest-same (λ i s. sym (strips-none (λ a. bit (z a)) w h k i (laid .wheel .some) missed)) (record {
+      bound = λ i s. omega arith;
+      inside = laid .wheel .some;
+      hit = refl;
+      least = λ i s. absurd (omega arith);
+    })
+  where
+    missed : (a : ℕ) → a < w → bit (z a) ≡ 0
+    missed a s = laid .lay .alike 0 a (omega arith) (rw (edge-past l w 1 (omega arith)) s)
+
+pub topped-drawn :
+    (l : List ℕ) (w : ℕ) (m : List ℕ) (h k c a : ℕ) → length m ≡ w → ((z : Subset) → Laid l w z → Drawn m z) → Top m h k c a
+    → Topped l w h k c a
+unfolding Topped
+topped-drawn l w m h k c a long drawn top z laid =
+    rw long at (largest-same (λ i _. met-drawn m z (drawn z laid) (omega (arith, laid .wheel .some)) h k i) (record {
+      bound = top .bound;
+      inside = top .inside;
+      hit = top .hit;
+      least = top .least;
+    }))
+
+pub highest :
+    (l : List ℕ) (w : ℕ) (t : Task) (n : ℕ) (late late′ : List ℕ) (x c a : ℕ) → LateIn l w t 1 late n late′ → x ≡ w
+    → Topped (take n late′) x (t .h) (t .k) c a → Highest l w t c a
+unfolding Topped Highest count
+highest l w t n late late′ x c a lates long top u laid =
+    largest-same (λ i _. from-side w u (laid .wheel) (asked t) 1 (t .k) i)
+    (rw long at (top (λ a. dropped 2 u (asked t) (2 * a + 1)) (rw long (lates .laid u laid))))
+
+pub highest-inside :
+    (l : List ℕ) (w : ℕ) (t : Task) (late map : List ℕ) (c a : ℕ) → Lent l w t late map → Highest l w t c a → a < mostTicks
+unfolding Runs Highest
+highest-inside l w t late map c a lent high =
+    let laid = lent .runs .1 in
+    omega (arith, high (lent .runs .0) laid .inside, laid .most)
+
+-- ---- no half tick is above it, and offsets
+
+-- A half tick is a tick or half a tick after one.
+by-parity : (P : ℕ → Type 0) → ((a : ℕ) → P (2 * a)) → ((a : ℕ) → P (2 * a + 1)) → (x : ℕ) → P x
+by-parity P even odd x = go (x / 2) (x % 2) (omega arith) (omega arith)
+  where
+    go : (a r : ℕ) → r < 2 → x ≡ 2 * a + r → P x
+    go a zero s e = let q : x ≡ 2 * a = omega arith in rw q (even a)
+    go a (suc zero) s e = rw e (odd a)
+    go a (suc (suc r)) s e = absurd (omega arith)
+
+module _ (w : ℕ) (u : Subset) (t : rules.Task) {c a : ℕ} (r : Largest (λ i. count 2 u t (2 * i + 1)) w c a) where
+  ridge-bound : (x : ℕ) → x < 2 * w → count 2 u t x ≤ c
+  ridge-bound =
+      by-parity (λ x. x < 2 * w → count 2 u t x ≤ c)
+      (λ i s. let z = r .bound i (omega arith) in let y = count-after u t i in omega arith)
+      (λ i s. r .bound i (omega arith))
+
+  -- Offset 0: no half tick is before it.
+  worst-zero : Wheel w u → count 2 u t 0 ≡ c → Worst w u t c 0
+  worst-zero wheel e =
+      worst-of-best w u wheel t (record {
+        value = c;
+        place = 0;
+        bound = ridge-bound;
+        inside = omega (arith, r .inside);
+        hit = e;
+        least = λ i s. absurd (omega arith);
+      })
+
+  -- Odd offsets. Before the ridge's half tick every count is less: of a later tick by the half tick before it, of tick 0 by the half tick after it,
+  -- or as told.
+  worst-odd : Wheel w u → (a ≡ 0 → count 2 u t 0 ≡ c → ⊥) → Worst w u t c (2 * a + 1)
+  worst-odd wheel off =
+      worst-of-best w u wheel t (record {
+        value = c;
+        place = 2 * a + 1;
+        bound = ridge-bound;
+        inside = omega (arith, r .inside);
+        hit = r .hit;
+        least = by-parity (λ x. x < 2 * a + 1 → count 2 u t x < c) even (λ i s. r .least i (omega arith));
+      })
+    where
+      start : (b : ℕ) → b ≡ a → count 2 u t 0 < c
+      start zero e =
+          let x : count 2 u t 0 ≤ c = ridge-bound 0 (omega (arith, r .inside)) in
+          let n : ¬ (count 2 u t 0 ≡ c) = off (sym e) in
+          omega arith
+      start (suc b) e = let x = count-after u t 0 in let y = r .least 0 (omega arith) in omega arith
+
+      even : (i : ℕ) → 2 * i < 2 * a + 1 → count 2 u t (2 * i) < c
+      even zero s = start a refl
+      even (suc i) s =
+          let q : 2 * suc i ≡ 2 * (i + 1) = omega arith in
+          let x = count-before u t i in
+          let y = r .least i (omega arith) in
+          rw q (omega arith)
+
+-- ---- what is found
+
+-- Where no half tick after a tick has drops, tick 0 has none.
+pub found-none : (l : List ℕ) (w : ℕ) (t : Task) (a : ℕ) → Highest l w t 0 a → Found l w t (record { drops = 0; offset = 0 })
+unfolding Highest Found
+found-none l w t a high u laid =
+    let r = high u laid in
+    let z : count 2 u (asked t) 0 ≤ 0 = ridge-bound w u (asked t) r 0 (omega (arith, laid .wheel .some)) in
+    worst-zero w u (asked t) r (laid .wheel) (omega arith)
+
+pub found-later :
+    (l : List ℕ) (w : ℕ) (t : Task) (c a : ℕ) → Highest l w t c a → (a ≡ 0 → ⊥)
+    → Found l w t (record { drops = c; offset = 2 * a + 1 })
+unfolding Highest Found
+found-later l w t c a high off u laid = worst-odd w u (asked t) (high u laid) (laid .wheel) (λ e _. off e)
+
+pub found-start :
+    (l : List ℕ) (w : ℕ) (t : Task) (c a : ℕ) → Highest l w t c a → Tallied l w t 0 c
+    → Found l w t (record { drops = c; offset = 0 })
+unfolding Highest Found Tallied
+found-start l w t c a high tally u laid = worst-zero w u (asked t) (high u laid) (laid .wheel) (sym (tally u laid))
+
+-- Half a tick after tick 0, where tick 0 itself has another count.
+pub found-half :
+    (l : List ℕ) (w : ℕ) (t : Task) (c a n : ℕ) → Highest l w t c a → a ≡ 0 → Tallied l w t 0 n → (n ≡ c → ⊥)
+    → Found l w t (record { drops = c; offset = 1 })
+unfolding Highest Found Tallied
+found-half l w t c a n high zero-at tally other u laid =
+    let start : Largest (λ i. count 2 u (asked t) (2 * i + 1)) w c 0 = rw zero-at at (high u laid) in
+    worst-odd w u (asked t) start (laid .wheel) (λ _ e. other (tally u laid ∙ e))
+
+-- ---- the verdict
+
+-- The worst count tells, whatever its offset.
+pub judged : (l : List ℕ) (w : ℕ) (t : Task) (c a : ℕ) → Highest l w t c a → Judges l w t c
+unfolding Highest Judges
+judged l w t c a high u laid =
+    let r = high u laid in
+    let worst = worst-exists w u (laid .wheel) (asked t) in
+    let below : worst .0 ≤ c = rw (worst .2 .hit) at (ridge-bound w u (asked t) r (worst .1) (worst .2 .inside)) in
+    let above : c ≤ worst .0 = rw (r .hit) at (worst .2 .bound 2 (2 * a + 1) (omega arith)) in
+    rw (le-antisymm below above) at (firm-agrees w u (asked t) (worst .0) (worst .1) (worst .2))
+
+-- Without late runs nothing drops.
+pub judged-none :
+    (l : List ℕ) (w : ℕ) (t : Task) (n : ℕ) (late late′ : List ℕ) → LateIn l w t 1 late n late′ → n ≡ 0 → Judges l w t 0
+judged-none l w t n late late′ lates none =
+    judged l w t 0 0
+    (highest l w t n late late′ w 0 0 lates refl
+    (topped-none (take n late′) w (t .h) (t .k) (length-take-le n late′ (lates .room) ∙ none)))
+
+-- A late tick drops the first of the strips from there, which is one too many where all must be painted.
+pub judged-one :
+    (l : List ℕ) (w : ℕ) (t : Task) (n : ℕ) (late late′ : List ℕ) → LateIn l w t 1 late n late′
+    → edge (take n late′) w (suc 0) < edge (take n late′) w (suc 1) → t .m ≡ t .k → 0 < t .k → Judges l w t 1
+unfolding Judges Firm firmTest count drops edge
+judged-one l w t n late late′ lates begins all some u laid = (
+  λ e. absurd (omega (arith, leb-true 1 (t .k - t .m) e)),
+  λ firm.
+      let a : ℕ = edge (take n late′) w (suc 0) in
+      let late : bit (dropped 2 u (asked t) (2 * a + 1)) ≡ 1 = lates .laid u laid .lay .alike 1 a (le-refl _) begins in
+      let strip : Subset = λ i. dropped 2 u (asked t) (2 * a + 1 + i * (2 * t .h)) in
+      let first : bit (strip 0) ≡ 1 = rw (zero-mul, add-zero) late in
+      absurd (omega (arith, firm 2 (2 * a + 1) (omega arith), number-longer strip 1 (t .k) some, number-more strip 0, number-none strip)),
+)

@@ -1,0 +1,82 @@
+-- What the room is asked and what it answers, over runs of usable ticks. Definitions only.
+--
+--     mostEdges                 the most edges of the runs that the room takes: two a slot
+--     Lent l w t late map       what the work is lent: runs l of a wheel of w ticks, a task, room for its late runs, a map of the wheel
+--     Largest f w c a           c is the largest of the values of f below w, and a is the first place that has it
+--     met w z h k p             how many of k strips from tick p on, in steps of h, meet a tick of the set z
+--     Topped l w h k c a        the largest such number for every set that the runs l lay out, and the first tick that has it
+--     Highest l w t c a         the largest count half a tick after a tick, for every set of ticks that the runs lay out, and the first such tick
+--     Found l w t r             r is the worst count and offset (rule 6) of every such set
+--     Judges l w t c            rule 7's test on c says whether such a set is firm
+--     Glanced l w t q           a verdict that is known is right
+--     Tallied l w t x c         c strips are dropped from half tick x (rule 4), for every such set
+--     Told l w t ask r          the answer to what was asked: the worst, a number to tell firm by, or the count from a half tick
+--
+-- Side 0 is at the ticks, side 1 half a tick after them.
+use mathlib.Core.Path.{_≡_}
+use mathlib.Core.Logic.{_↔_}
+use mathlib.Core.Bool.{true}
+use mathlib.Core.List.{List}
+use Prim.Native.Nat.{ℕ, _+_, _*_, _≤_, _<_, min}
+use lib.ListN.{length}
+use Rattle.rules.specs.Sums.{Subset, bit}
+use Rattle.rules.specs.Supply.{count}
+use Rattle.rules.specs.Worst.{Worst, Firm, firmTest}
+use Rattle.limits.specs.Limits.{mostSlots, asked, Within}
+use Rattle.limits.specs.declared.Task.{Task}
+use Rattle.runs.specs.Runs.{Laid, Runs}
+use Rattle.maps.specs.Maps.{strips}
+use Rattle.late.specs.Late.{lateRoom}
+use Rattle.room.specs.declared.Ask.{Ask}
+use Rattle.room.specs.declared.Ask.the-variants as ask
+use Rattle.room.specs.declared.Peak.{Peak}
+use Rattle.room.specs.declared.Glance.{Glance}
+use Rattle.room.specs.declared.Glance.the-variants as glance
+
+abbrev pub mostEdges : ℕ
+mostEdges = 2 * mostSlots
+
+pub record Lent (l : List ℕ) (w : ℕ) (t : Task) (late map : List ℕ) : Type 0 where
+  pub runs : Runs l w
+  pub within : Within t
+  pub room : min (lateRoom (length l)) w ≤ length late
+  pub long : length map ≡ w
+
+pub record Largest (f : ℕ → ℕ) (w c a : ℕ) : Type 0 where
+  pub bound : (i : ℕ) → i < w → f i ≤ c
+  pub inside : a < w
+  pub hit : f a ≡ c
+  pub least : (i : ℕ) → i < a → f i < c
+
+unfoldable pub met : ℕ → Subset → ℕ → ℕ → ℕ → ℕ
+met w z h k p = strips (λ a. bit (z a)) w h k p
+
+unfoldable pub Topped : List ℕ → ℕ → ℕ → ℕ → ℕ → ℕ → Type 0
+Topped l w h k c a = (z : Subset) → Laid l w z → Largest (met w z h k) w c a
+
+unfoldable pub Highest : List ℕ → ℕ → Task → ℕ → ℕ → Type 0
+Highest l w t c a = (u : Subset) → Laid l w u → Largest (λ i. count 2 u (asked t) (2 * i + 1)) w c a
+
+unfoldable pub Found : List ℕ → ℕ → Task → Peak → Type 0
+Found l w t r = (u : Subset) → Laid l w u → Worst w u (asked t) (r .drops) (r .offset)
+
+unfoldable pub Judges : List ℕ → ℕ → Task → ℕ → Type 0
+Judges l w t c = (u : Subset) → Laid l w u → (firmTest (asked t) c ≡ true) ↔ Firm u (asked t)
+
+abbrev pub Glanced : List ℕ → ℕ → Task → Glance → Type 0
+Glanced l w t (glance.Known c) = Judges l w t c
+Glanced l w t glance.Unknown = Unit {0}
+
+unfoldable pub Tallied : List ℕ → ℕ → Task → ℕ → ℕ → Type 0
+Tallied l w t x c = (u : Subset) → Laid l w u → c ≡ count 2 u (asked t) x
+
+abbrev pub Told : List ℕ → ℕ → Task → Ask → Peak → Type 0
+Told l w t ask.Worst r = Found l w t r
+Told l w t ask.Verdict r = Judges l w t (r .drops)
+Told l w t (ask.From x) r = Tallied l w t x (r .drops)
+
+-- A question asks within the wheel.
+abbrev pub Asked : ℕ → Ask → Type 0
+Asked w ask.Worst = Unit {0}
+Asked w ask.Verdict = Unit {0}
+Asked w (ask.From x) = x < 2 * w

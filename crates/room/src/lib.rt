@@ -1,0 +1,130 @@
+// Every array as long as a wheel, in sizes, so that a small wheel doesn't clear a large one's. Whatever is asked of runs and a task is found in
+// what the room lends.
+mod doubled;
+mod work;
+
+ghost use mathlib.Core.Path.{_≡_};
+ghost use Prim.Native.Nat.{_*_, _≤_, _<_};
+ghost use lib.ListN.{length};
+ghost use Rattle.limits.specs.Limits.{mostTicks, Within};
+ghost use Rattle.runs.specs.Runs.{Runs};
+ghost use Rattle.room.specs.Room.{mostEdges, Found, Judges, Glanced, Tallied, Asked, Told};
+use limits::Task;
+use limits::Wheel;
+
+// What is asked of the runs of a wheel and a task: the worst count and offset, a number to tell firm by, or the count from a half tick.
+pub enum Ask {
+    Worst,
+    Verdict,
+    From(usize),
+}
+
+// How many of the k strips are dropped, and from which half tick on; where no offset is asked it is 0.
+pub struct Peak {
+    pub drops: u32,
+    pub offset: u32,
+}
+
+// A verdict where the late runs alone tell it.
+enum Glance {
+    Known(u32),
+    Unknown,
+}
+
+// The most edges that runs may have here: two a slot.
+pub const MOST_EDGES: usize = 2 * Wheel::MOST_SLOTS;
+
+const LATE_EDGES: usize = 2 * MOST_EDGES + 4;
+
+fn on_256(runs: &[u16], w: usize, task: Task, ask: Ask) -> Peak
+    requires { ⌜ Runs (now runs) w × Within task × (length (now runs) ≤ mostEdges) × (w ≤ 256) × Asked w ask ⌝ }
+    ensures { λ r. ⌜ Told (now (runs .entry)) w task ask r ⌝ }
+{
+    let mut late = [0u16; 256];
+    let mut map = [0u8; 256];
+    work::tell(runs, w, task, ask, &mut late, &mut map)
+}
+
+fn on_2048(runs: &[u16], w: usize, task: Task, ask: Ask) -> Peak
+    requires { ⌜ Runs (now runs) w × Within task × (length (now runs) ≤ mostEdges) × (w ≤ 2048) × Asked w ask ⌝ }
+    ensures { λ r. ⌜ Told (now (runs .entry)) w task ask r ⌝ }
+{
+    let mut late = [0u16; LATE_EDGES];
+    let mut map = [0u8; 2048];
+    work::tell(runs, w, task, ask, &mut late, &mut map)
+}
+
+fn on_4096(runs: &[u16], w: usize, task: Task, ask: Ask) -> Peak
+    requires { ⌜ Runs (now runs) w × Within task × (length (now runs) ≤ mostEdges) × (w ≤ 4096) × Asked w ask ⌝ }
+    ensures { λ r. ⌜ Told (now (runs .entry)) w task ask r ⌝ }
+{
+    let mut late = [0u16; LATE_EDGES];
+    let mut map = [0u8; 4096];
+    work::tell(runs, w, task, ask, &mut late, &mut map)
+}
+
+fn on_most(runs: &[u16], w: usize, task: Task, ask: Ask) -> Peak
+    requires { ⌜ Runs (now runs) w × Within task × (length (now runs) ≤ mostEdges) × (w ≤ mostTicks) × Asked w ask ⌝ }
+    ensures { λ r. ⌜ Told (now (runs .entry)) w task ask r ⌝ }
+{
+    let mut late = [0u16; LATE_EDGES];
+    let mut map = [0u8; Wheel::MOST_TICKS];
+    work::tell(runs, w, task, ask, &mut late, &mut map)
+}
+
+fn told(runs: &[u16], w: usize, task: Task, ask: Ask) -> Peak
+    requires { ⌜ Runs (now runs) w × Within task × (length (now runs) ≤ mostEdges) × Asked w ask ⌝ }
+    ensures { λ r. ⌜ Told (now (runs .entry)) w task ask r ⌝ }
+{
+    if w <= 256 {
+        return on_256(runs, w, task, ask);
+    }
+    if w <= 2048 {
+        return on_2048(runs, w, task, ask);
+    }
+    if w <= 4096 {
+        return on_4096(runs, w, task, ask);
+    }
+    on_most(runs, w, task, ask)
+}
+
+// The worst count and offset (rule 6).
+pub fn worst(runs: &[u16], w: usize, task: Task) -> Peak
+    requires { ⌜ Runs (now runs) w × Within task × (length (now runs) ≤ mostEdges) ⌝ }
+    ensures { λ r. ⌜ Found (now (runs .entry)) w task r ⌝ }
+{
+    told(runs, w, task, Ask::Worst)
+}
+
+// Needs no array as long as the wheel.
+fn quick(runs: &[u16], w: usize, task: Task) -> Glance
+    requires { ⌜ Runs (now runs) w × Within task × (length (now runs) ≤ mostEdges) × (task .m ≡ task .k) ⌝ }
+    ensures { λ r. ⌜ Glanced (now (runs .entry)) w task r ⌝ }
+{
+    let mut late = [0u16; LATE_EDGES];
+    work::quick(runs, w, task, &mut late)
+}
+
+// At most k − m exactly when the runs are firm (rule 7): the worst count, or less work where less tells.
+pub fn verdict(runs: &[u16], w: usize, task: Task) -> u32
+    requires { ⌜ Runs (now runs) w × Within task × (length (now runs) ≤ mostEdges) ⌝ }
+    ensures { λ r. ⌜ Judges (now (runs .entry)) w task r ⌝ }
+{
+    if task.m == task.k {
+        let q = quick(runs, w, task);
+        if let Glance::Known(drops) = q {
+            return drops;
+        }
+    }
+    let p = told(runs, w, task, Ask::Verdict);
+    p.drops
+}
+
+// How many of the k strips from half tick x are dropped (rule 4).
+pub fn count(runs: &[u16], w: usize, task: Task, x: usize) -> u32
+    requires { ⌜ Runs (now runs) w × Within task × (length (now runs) ≤ mostEdges) × (x < 2 * w) ⌝ }
+    ensures { λ r. ⌜ Tallied (now (runs .entry)) w task x r ⌝ }
+{
+    let p = told(runs, w, task, Ask::From(x));
+    p.drops
+}

@@ -1,0 +1,155 @@
+// The work, in buffers that the caller lends in any state: a size is only who lends them.
+ghost use mathlib.Core.Path.{_≡_};
+ghost use Prim.Native.Nat.{suc, _+_, _*_, _≤_, _<_, min};
+ghost use lib.Dec.{ltb};
+ghost use lib.ListN.{length};
+ghost use Rattle.limits.specs.Limits.{mostTicks, mostPeriod, mostStrips, Within};
+ghost use Rattle.runs.specs.Runs.{edge, Runs};
+ghost use Rattle.late.specs.Late.{lateRoom};
+ghost use Rattle.maps.specs.Maps.{Mapped, Sized, Top};
+ghost use Rattle.room.specs.Room.{Lent, Topped, Highest, Found, Judges, Glanced, Tallied, Asked, Told};
+use crate::Ask;
+use crate::Glance;
+use crate::Peak;
+use crate::doubled;
+use limits::Task;
+use maps::Crest;
+
+// How many of the k strips from half tick x are dropped.
+fn count(runs: &[u16], w: usize, task: Task, x: usize, late: &mut [u16], map: &mut [u8]) -> u32
+    requires { ⌜ Lent (now runs) w task (now late) (now map) × (x < 2 * w) ⌝ }
+    ensures { λ r. ⌜ Tallied (now (runs .entry)) w task x r ⌝ }
+{
+    let n = late::late(runs, w, task, x % 2, late);
+    maps::draw(&late[..n], map);
+    maps::tally(map, x / 2, task.h, task.k) as u32
+}
+
+// Whether sliding back from each start of a late run is less work than doubling, by what both take on large wheels and small ones. Either way
+// the answer is the same.
+fn slides(edges: usize, k: usize, w: usize) -> bool
+    requires { ⌜ (edges ≤ w) × (k ≤ mostStrips) × (w ≤ mostTicks) ⌝ }
+{
+    7 * k * edges <= w + 400
+}
+
+fn crest(late: &[u16], map: &[u8], h: usize, k: usize) -> Crest
+    requires { ⌜ Mapped (now late) (now map) × Sized (now map) h k × (0 < k) × (length (now late) ≤ length (now map)) ⌝ }
+    ensures { λ r. ⌜ Top (now (map .entry)) h k (r .drops) (r .at) ⌝ }
+{
+    if slides(late.len(), k, map.len()) {
+        return slide::slide(late, map, h, k);
+    }
+    doubled::doubled(map, h, k)
+}
+
+// The largest count of k strips along late runs. Where there are none nothing is drawn.
+fn top(late: &[u16], map: &mut [u8], h: usize, k: usize) -> Crest
+    requires { ⌜ Runs (now late) (length (now map)) × (length (now late) ≤ length (now map)) ⌝ }
+    requires { ⌜ (h ≤ mostPeriod) × (0 < k) × (k ≤ mostStrips) ⌝ }
+    ensures { λ r. ⌜ Topped (now (late .entry)) (length (now (map .entry))) h k (r .drops) (r .at) ⌝ }
+{
+    if late.len() == 0 {
+        return Crest { drops: 0, at: 0 };
+    }
+    maps::draw(late, map);
+    crest(late, map, h, k)
+}
+
+// The largest count half a tick after a tick.
+fn ridge(runs: &[u16], w: usize, task: Task, late: &mut [u16], map: &mut [u8]) -> Crest
+    requires { ⌜ Lent (now runs) w task (now late) (now map) ⌝ }
+    ensures { λ r. ⌜ Highest (now (runs .entry)) w task (r .drops) (r .at) ⌝ }
+    ensures { λ _. ⌜ Lent (now (runs .entry)) w task (now (late .exit)) (now (map .exit)) ⌝ }
+{
+    let n = late::late(runs, w, task, 1, late);
+    top(&late[..n], map, task.h, task.k)
+}
+
+// Half a tick after a tick, in half ticks.
+fn after(at: usize) -> u32
+    requires { ⌜ at < mostTicks ⌝ }
+    ensures { λ r. ⌜ r ≡ 2 * at + 1 ⌝ }
+{
+    (2 * at + 1) as u32
+}
+
+// From the largest count half a tick after a tick to the worst. Only at half tick 1 is there a half tick before it that may be as bad: 0.
+fn settle(runs: &[u16], w: usize, task: Task, c: Crest, late: &mut [u16], map: &mut [u8]) -> Peak
+    requires { ⌜ Lent (now runs) w task (now late) (now map) × Highest (now runs) w task (c .drops) (c .at) ⌝ }
+    ensures { λ r. ⌜ Found (now (runs .entry)) w task r ⌝ }
+{
+    let drops = c.drops;
+    let at = c.at;
+    if drops == 0 {
+        return Peak { drops, offset: 0 };
+    }
+    if at != 0 {
+        return Peak {
+            drops,
+            offset: after(at),
+        };
+    }
+    if count(runs, w, task, 0, late, map) == drops {
+        return Peak { drops, offset: 0 };
+    }
+    Peak { drops, offset: 1 }
+}
+
+fn worst(runs: &[u16], w: usize, task: Task, late: &mut [u16], map: &mut [u8]) -> Peak
+    requires { ⌜ Lent (now runs) w task (now late) (now map) ⌝ }
+    ensures { λ r. ⌜ Found (now (runs .entry)) w task r ⌝ }
+{
+    let c = ridge(runs, w, task, late, map);
+    settle(runs, w, task, c, late, map)
+}
+
+// The worst count alone: whatever its offset, it tells whether the runs are firm.
+fn verdict(runs: &[u16], w: usize, task: Task, late: &mut [u16], map: &mut [u8]) -> u32
+    requires { ⌜ Lent (now runs) w task (now late) (now map) ⌝ }
+    ensures { λ r. ⌜ Judges (now (runs .entry)) w task r ⌝ }
+{
+    let c = ridge(runs, w, task, late, map);
+    c.drops
+}
+
+// Whether the first late run has a tick.
+fn begins(late: &[u16], w: usize) -> bool
+    ensures { λ r. ⌜ r ≡ ltb (edge (now (late .entry)) w (suc 0)) (edge (now (late .entry)) w (suc 1)) ⌝ }
+{
+    runs::end(late, w, 0) < runs::end(late, w, 1)
+}
+
+// The verdict where every strip must be painted: one late tick is enough to know, so no map is needed.
+pub fn quick(runs: &[u16], w: usize, task: Task, late: &mut [u16]) -> Glance
+    requires { ⌜ Runs (now runs) w × Within task × (min (lateRoom (length (now runs))) w ≤ length (now late)) × (task .m ≡ task .k) ⌝ }
+    ensures { λ r. ⌜ Glanced (now (runs .entry)) w task r ⌝ }
+{
+    let n = late::late(runs, w, task, 1, late);
+    if n == 0 {
+        return Glance::Known(0);
+    }
+    if begins(&late[..n], w) {
+        return Glance::Known(1);
+    }
+    Glance::Unknown
+}
+
+// Answers what is asked, on the part of the map that is as long as the wheel.
+pub fn tell(runs: &[u16], w: usize, task: Task, ask: Ask, late: &mut [u16], map: &mut [u8]) -> Peak
+    requires { ⌜ Runs (now runs) w × Within task × (min (lateRoom (length (now runs))) w ≤ length (now late)) × (w ≤ length (now map)) × Asked w ask ⌝ }
+    ensures { λ r. ⌜ Told (now (runs .entry)) w task ask r ⌝ }
+{
+    let part = &mut map[..w];
+    match ask {
+        Ask::Worst => worst(runs, w, task, late, part),
+        Ask::Verdict => Peak {
+            drops: verdict(runs, w, task, late, part),
+            offset: 0,
+        },
+        Ask::From(x) => Peak {
+            drops: count(runs, w, task, x, late, part),
+            offset: 0,
+        },
+    }
+}

@@ -1,0 +1,78 @@
+-- Places on a wheel, and the strips counted from one: a step on, and the one place that a step leads from. Assumes nothing.
+use mathlib.Core.Path.{_≡_, sym, ap, _∙_}
+use mathlib.Core.Logic.{_⊎_, inl, inr, ⊎-elim}
+use mathlib.Core.List.{List}
+use Prim.Native.Nat.{ℕ, _+_, _-_, _*_, _%_, _≤_, _<_}
+use native.Mathlib.Nat.{zero-mul, one-mul, add-mul, add-zero, mod-lt, mod-eq-of-lt, mod-add-mod, add-mod-mod, add-mod-right}
+use native.Mathlib.Omega.{arith}
+use lib.ListN.{length, getD}
+use Rattle.rules.proofs.Sums.{le-or-lt}
+use Rattle.maps.specs.Maps.{fallen}
+use Rattle.maps.proofs.Strips.{Counting, count-start, count-next, count-end}
+use Rattle.slide.specs.Slides.{Round}
+
+-- ---- places
+
+pub place-first : {w p : ℕ} (s : ℕ) → p < w → (p + 0 * s) % w ≡ p
+place-first s inside = rw (zero-mul, add-zero) (mod-eq-of-lt inside)
+
+pub place-next : (w p i s : ℕ) → ((p + i * s) % w + s) % w ≡ (p + (i + 1) * s) % w
+place-next w p i s =
+    let e : p + i * s + s ≡ p + (i + 1) * s = omega (arith, add-mul i 1 s, one-mul s) in
+    mod-add-mod (p + i * s) w s ∙ ap (λ y. y % w) e
+
+-- s places on from the place before is this one, so one strip more arrives where it did.
+pub place-before : (w p p′ n s : ℕ) → p ≡ (p′ + s) % w → (p′ + (n + 1) * s) % w ≡ (p + n * s) % w
+place-before w p p′ n s back =
+    let e : p′ + s + n * s ≡ p′ + (n + 1) * s = omega (arith, add-mul n 1 s, one-mul s) in
+    sym (ap (λ y. (y + n * s) % w) back ∙ mod-add-mod (p′ + s) w (n * s) ∙ ap (λ y. y % w) e)
+
+once-round : {a r w : ℕ} → a < w → r < w → ((a + r) % w ≡ a + r) ⊎ ((a + r) % w + w ≡ a + r)
+once-round {a} {r} {w} la lr =
+    ⊎-elim
+    (λ (past : w ≤ a + r).
+    let e : a + r ≡ a + r - w + w = omega arith in
+    let f = ap (λ y. y % w) e ∙ add-mod-right (a + r - w) w ∙ mod-eq-of-lt (omega arith) in
+    inr (omega (arith, f)))
+    (λ (below : a + r < w). inl (mod-eq-of-lt below))
+    (le-or-lt w (a + r))
+
+-- From one place alone s places on is a given place.
+pub one-place : {a b w : ℕ} (s : ℕ) → a < w → b < w → (a + s) % w ≡ (b + s) % w → a ≡ b
+one-place {a} {b} {w} s la lb e =
+    let r = s % w in
+    let lr : r < w = mod-lt s (omega arith) in
+    let same : (a + r) % w ≡ (b + r) % w = add-mod-mod a s w ∙ e ∙ sym (add-mod-mod b s w) in
+    let below : (a + r) % w < w = mod-lt (a + r) (omega arith) in
+    ⊎-elim
+    (λ (x : (a + r) % w ≡ a + r).
+    ⊎-elim (λ (y : (b + r) % w ≡ b + r). omega arith) (λ (y : (b + r) % w + w ≡ b + r). omega arith) (once-round lb lr))
+    (λ (x : (a + r) % w + w ≡ a + r).
+    ⊎-elim (λ (y : (b + r) % w ≡ b + r). omega arith) (λ (y : (b + r) % w + w ≡ b + r). omega arith) (once-round lb lr))
+    (once-round la lr)
+
+-- ---- the strips counted from a place, the next one's place along with them
+
+pub record Row (m : List ℕ) (s k p drops at i : ℕ) : Type 0 where
+  pub counting : Counting m s k p drops i
+  pub inside : at < length m
+  pub place : at ≡ (p + i * s) % length m
+
+pub row-start : {m : List ℕ} {p : ℕ} (s k : ℕ) → p < length m → Row m s k p 0 p 0
+row-start {m} {p} s k inside =
+    record { counting = count-start m s k p; inside = inside; place = sym (place-first s inside) }
+
+pub row-next :
+    {m : List ℕ} {s k p drops at i b at′ : ℕ} → Row m s k p drops at i → i < k → b ≡ getD m at 0 → at′ ≡ (at + s) % length m
+    → at′ < length m → Row m s k p (drops + b) at′ (i + 1)
+row-next {m} {s} {p = p} {at = at} {i} r less e on inside =
+    record {
+      counting = count-next (r .counting) less (e ∙ ap (λ a. getD m a 0) (r .place));
+      inside = inside;
+      place = on ∙ ap (λ a. (a + s) % length m) (r .place) ∙ place-next (length m) p i s;
+    }
+
+pub row-end :
+    {m : List ℕ} {s k p drops at i : ℕ} → Round m s k → Row m s k p drops at i → k ≤ i
+    → drops ≡ fallen m s k p
+row-end round r end = count-end (round .sized) (r .counting) end .0

@@ -1,0 +1,126 @@
+#!/bin/sh
+# What the sheet says of files that can't be read, from the program itself and from sheet.sh. SITE has tables and the records made from them.
+# Usage: sheet-test.sh SHEET RECORDS HALFWAY SITE
+set -u
+here=$(dirname "$0") records=$2 halfway=$(realpath "$3") site=$4
+folder=$(mktemp -d) || exit 1
+trap 'rm -rf "$folder"' EXIT
+tried=0 failed=0
+only='- 1 0 0 0'
+
+# The program stands where another user reaches it: on some machines a script that starts the program beside it.
+chmod 755 "$folder"
+cp "$1" "$folder/sheet"
+[ ! -e "$1.x86-64" ] || cp "$1.x86-64" "$folder/sheet.x86-64"
+sheet=$folder/sheet
+
+fail() {
+    failed=$((failed + 1))
+    echo "sheet-test: FAILED: $1"
+}
+
+skip() {
+    echo "sheet-test: skipped: $1"
+}
+
+# A fresh folder `site` with good records.
+fresh() {
+    rm -rf "$folder/site" "$folder/room"
+    mkdir "$folder/site"
+    cp "$site/tasks.bin" "$site/slots.bin" "$folder/site"
+}
+
+# prints NAME [RUN...]: the program, started by RUN in the fresh folder, must print the one line alone and end well.
+prints() {
+    tried=$((tried + 1))
+    name=$1
+    shift
+    out=$(cd "$folder/site" && "$@" "$sheet") || fail "$name: exit status $?"
+    [ "$out" = "$only" ] || fail "$name: printed \"$out\""
+}
+
+# says NAME TEXT PRINTED: sheet.sh must say TEXT, print PRINTED and end well.
+says() {
+    tried=$((tried + 1))
+    out=$("$here/sheet.sh" "$sheet" "$records" "$folder/site" "$folder/room" 2>"$folder/said") || fail "$1: exit status $?"
+    [ "$out" = "$3" ] || fail "$1: printed \"$out\""
+    [ "$(cat "$folder/said")" = "$2" ] || fail "$1: said \"$(cat "$folder/said")\", not \"$2\""
+}
+
+# The good site, so that a refusal below comes from the file alone.
+fresh
+whole=$(cd "$folder/site" && "$sheet")
+case $whole in '' | "$only") fail "a good site: printed \"$whole\"" ;; esac
+
+for file in tasks.bin slots.bin; do
+    fresh; rm "$folder/site/$file"
+    prints "no $file"
+    fresh; rm "$folder/site/$file"; mkdir "$folder/site/$file"
+    prints "a folder for $file"
+done
+
+# A file that opens and whose first read fails: nothing is ever mapped at address 0.
+for file in tasks.bin slots.bin; do
+    fresh; ln -sf /proc/self/mem "$folder/site/$file"
+    if cat "$folder/site/$file" >/dev/null 2>&1 || ! true <"$folder/site/$file"; then
+        skip "$file whose first read fails: no such file here"
+    else
+        prints "$file whose first read fails"
+    fi
+done
+
+# A file whose reads fail half way, when all of its bytes have come.
+for file in tasks.bin slots.bin; do
+    fresh; mv "$folder/site/$file" "$folder/site/whole"
+    (cd "$folder/site" && "$halfway" whole none true)
+    case $? in
+    0) prints "$file whose reads fail half way" "$halfway" whole "$file" ;;
+    77) skip "$file whose reads fail half way: no terminal here" ;;
+    *) fail "$file whose reads fail half way: no such file was made" ;;
+    esac
+done
+
+# A file without rights. Root reads it all the same, so root becomes nobody for it, by what the system has.
+unread() {
+    if [ "$(id -u)" != 0 ]; then
+        run=
+    elif setpriv --reuid=65534 --regid=65534 --clear-groups true 2>/dev/null; then
+        run='setpriv --reuid=65534 --regid=65534 --clear-groups'
+    else
+        return 1
+    fi
+    $run sh -c 'cd "$1" && [ -x "$2" ] && [ ! -r "$3" ]' sh "$folder/site" "$sheet" "$1" 2>/dev/null
+}
+for file in tasks.bin slots.bin; do
+    fresh; chmod 000 "$folder/site/$file"
+    # shellcheck disable=SC2086
+    if unread "$file"; then prints "$file without rights" env $run; else skip "$file without rights: this user reads it"; fi
+done
+
+# sheet.sh says which file it is, and the program's line is still printed.
+fresh
+says 'a good site' '' "$whole"
+fresh; rm "$folder/site/tasks.bin"
+says 'no tasks.bin' "make sheet: $folder/site/tasks.bin: no such file" "$only"
+fresh; rm "$folder/site/slots.bin"
+says 'no slots.bin' "make sheet: $folder/site/slots.bin: no such file" "$only"
+fresh; rm "$folder/site"/*
+says 'no files' "make sheet: $folder/site/tasks.bin: no such file
+make sheet: $folder/site/slots.bin: no such file" "$only"
+fresh; rm "$folder/site/slots.bin"; mkdir "$folder/site/slots.bin"
+says 'a folder for slots.bin' "make sheet: $folder/site/slots.bin: not a file" "$only"
+fresh; rm "$folder/site"/*; cp "$site"/*.csv "$folder/site"
+says 'tables' '' "$whole"
+fresh; rm "$folder/site"/*; cp "$site/tasks.csv" "$folder/site"
+says 'no slots.csv' "make sheet: $folder/site/slots.csv: no such file" "$only"
+fresh; rm "$folder/site"/*; cp "$site/slots.csv" "$folder/site"
+says 'no tasks.csv' "make sheet: $folder/site/tasks.csv: no such file" "$only"
+
+# No sheet stands for a table that can't be read or a site that isn't there.
+tried=$((tried + 2))
+fresh; rm "$folder/site"/*; cp "$site"/*.csv "$folder/site"; echo 1 >>"$folder/site/slots.csv"
+"$here/sheet.sh" "$sheet" "$records" "$folder/site" "$folder/room" >/dev/null 2>&1 && fail 'a bad table: taken'
+"$here/sheet.sh" "$sheet" "$records" "$folder/none" "$folder/room" >/dev/null 2>&1 && fail 'no site: taken'
+
+echo "sheet-test: $tried cases, $failed failed"
+[ "$failed" -eq 0 ]
