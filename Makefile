@@ -12,13 +12,15 @@ RATTLE := $(wildcard crates/*/src/*.rt crates/*/specs/*.antt crates/*/proofs/*.a
 	$(shell find crates -name Proof.antt) crates.txt
 
 # The archive holds x86-64 code. On another machine the C programs are compiled for x86-64 as well and run in an emulator, and address checks,
-# which an emulator has no room for, are left to x86-64. DECISIONS says why.
+# which an emulator has no room for, are left to x86-64, as are half of the second program's inputs. DECISIONS says why.
 ifeq ($(shell uname -m),x86_64)
 EMULATOR :=
+INPUTS := 200000
 SANITIZE += -fsanitize=address,undefined
 else
 CROSS := x86_64-linux-gnu
 EMULATOR := qemu-x86_64 -L /usr/$(CROSS)
+INPUTS := 100000
 SANITIZE += -fsanitize=undefined
 ifeq ($(origin CC),default)
 CC := $(CROSS)-gcc
@@ -128,7 +130,7 @@ host-test: host build/sheet build/questions
 	build/stack
 	rm -rf build/asked-room && mkdir build/asked-room
 	build/asked '$(CURDIR)/build/questions' build/asked-room
-	host/halves.sh build/second 200000 20260
+	host/halves.sh build/second $(INPUTS) 20260
 
 soak: build/second
 	build/second 5000000 $$(od -An -N4 -tu4 /dev/urandom | tr -d ' ')
