@@ -87,7 +87,7 @@ build/include/fiddlequill.h: $(HEADER)
 
 build/fiddlequill.pc: Makefile
 	@mkdir -p build
-	printf 'prefix=%s\nlibdir=$${prefix}/lib\nincludedir=$${prefix}/include\n\nName: fiddlequill\nDescription: proved judge for lobby displays\nVersion: 1.0.0\nLibs: -L$${libdir} -lfiddlequill\nCflags: -I$${includedir}\n' '$(PREFIX)' >$@
+	printf 'prefix=%s\nlibdir=$${prefix}/lib\nincludedir=$${prefix}/include\n\nName: fiddlequill\nDescription: proved judge for lobby displays\nVersion: 1.1.0\nLibs: -L$${libdir} -lfiddlequill\nCflags: -I$${includedir}\n' '$(PREFIX)' >$@
 
 install: lib
 	@rm -f build/fiddlequill.pc

@@ -1,8 +1,8 @@
 /*
  * Side by side, in one run and taking turns: the published Finite-Point method
  * (FP), plain doubling in C, in 16 bits and with a byte stage, the archive, and a
- * floor. Every case compares the answers; the exit status depends on that alone,
- * never on a time.
+ * floor; then a site in one call beside a call for each sign. Every case compares
+ * the answers; the exit status depends on that alone, never on a time.
  *
  *   bench FOLDER           prints the report, writes FOLDER/RESULTS.md and results.csv
  *   bench --once W SLOTS K calls each kind once, for counting instructions
@@ -298,12 +298,61 @@ static void fill_grant(struct grant_row *row, uint32_t sixtyfourths)
     row->judgements = row->grant / row->judging;
 }
 
+/* ---- sites ---- */
+
+struct siting {
+    const struct site *site;
+    judge judge; /* of a single sign; unused by the call for all */
+    uint8_t reply[SIGNS * FIDDLEQUILL_ANSWER_BYTES];
+    uint32_t number;
+};
+
+static void site_job(void *context)
+{
+    struct siting *s = context;
+    s->number = fiddlequill_site(s->site->tasks, sizeof s->site->tasks, s->site->slots, s->site->slots_len, s->reply,
+                                 sizeof s->reply);
+}
+
+static void singles_job(void *context)
+{
+    struct siting *s = context;
+    s->number = FIDDLEQUILL_OK;
+    for (size_t i = 0; i < SIGNS; i++)
+        s->number |= s->judge(s->site->tasks + i * FIDDLEQUILL_TASK_BYTES, FIDDLEQUILL_TASK_BYTES, s->site->slots,
+                              s->site->slots_len, s->reply + i * FIDDLEQUILL_ANSWER_BYTES, FIDDLEQUILL_ANSWER_BYTES);
+}
+
+static bool same_site(const struct siting *a, const struct siting *b)
+{
+    return a->number == FIDDLEQUILL_OK && b->number == FIDDLEQUILL_OK &&
+           memcmp(a->reply, b->reply, sizeof a->reply) == 0;
+}
+
+/* Plain doubling judges each sign once, so that the archive isn't compared with itself alone. */
+static void fill_site(struct site_row *row)
+{
+    static struct site site;
+    make_site(&site, row->cell);
+    struct siting whole = {.site = &site}, singles = {.site = &site, .judge = fiddlequill_judge};
+    struct siting doubling = {.site = &site, .judge = doubling_judge};
+    struct contender c[] = {{.run = site_job, .context = &whole}, {.run = singles_job, .context = &singles}};
+    take_turns(c, LENGTH(c));
+    singles_job(&doubling);
+    row->site = median(c[0].times);
+    row->singles = median(c[1].times);
+    row->spread = largest_spread(c, LENGTH(c));
+    row->agree = same_site(&whole, &singles) && same_site(&whole, &doubling);
+}
+
 /* ---- a whole run ---- */
 
 static const uint32_t wheels[] = {55, 700, 1300, 4096, 16384};
 static const uint32_t slot_counts[] = {1, 4, 16, 64};
 static const uint32_t strip_counts[] = {10, 125, 1024};
 static const uint32_t grant_lengths[] = {1, 20, 64, 256};
+static const struct cell site_cells[] = {{55, 4, 10},    {55, 4, 125},  {1300, 4, 10},
+                                         {1300, 4, 125}, {4096, 4, 10}, {4096, 4, 125}};
 
 static const struct {
     const char *kind;
@@ -314,6 +363,7 @@ static const struct {
 _Static_assert(LENGTH(wheels) * LENGTH(slot_counts) * LENGTH(strip_counts) <= ROWS_MAX, "rows");
 _Static_assert(LENGTH(slot_counts) * (1 + LENGTH(strip_counts)) + 2 * LENGTH(strip_counts) <= GROWTHS_MAX, "growths");
 _Static_assert(LENGTH(grant_lengths) * LENGTH(strip_counts) * LENGTH(grant_kinds) <= GRANTS_MAX, "grants");
+_Static_assert(LENGTH(site_cells) <= SITES_MAX, "sites");
 
 static void run_grid(struct results *results)
 {
@@ -365,6 +415,15 @@ static void run_grants(struct results *results)
     }
 }
 
+static void run_sites(struct results *results)
+{
+    results->sites = LENGTH(site_cells);
+    for (size_t i = 0; i < results->sites; i++) {
+        results->site[i].cell = site_cells[i];
+        fill_site(&results->site[i]);
+    }
+}
+
 static int write_results(const char *folder, const char *name, void (*print)(FILE *, const struct results *),
                          const struct results *results)
 {
@@ -386,6 +445,7 @@ static int run(const char *folder)
     run_grid(&results);
     run_growth(&results);
     run_grants(&results);
+    run_sites(&results);
     print_report(stdout, &results);
     if (write_results(folder, "RESULTS.md", print_report, &results) != 0 ||
         write_results(folder, "results.csv", print_csv, &results) != 0)
@@ -398,6 +458,7 @@ static int run(const char *folder)
 static int once(struct cell cell)
 {
     static struct workload load;
+    static struct site site;
     if (cell.w == 0 || cell.slots == 0 || cell.slots > FIDDLEQUILL_SLOTS_MAX || cell.slots > cell.w / 2) {
         fprintf(stderr, "bench: slots go from 1 to 64 and to half of w\n");
         return 2;
@@ -409,8 +470,13 @@ static int once(struct cell cell)
     uint32_t v = cell.w < GRANT_SLOTS ? 1 : cell.w / GRANT_SLOTS, h = period_for(GRANT_SLOTS * v, GRANT_SLOTS);
     struct granting grant = {.v = v, .e = h / 3, .h = h, .k = cell.k};
     grant_job(&grant);
-    printf("judged: worst %" PRIu32 "; counted there: %" PRIu32 "; granted: %" PRIu32 "\n",
-           get_number(ours.reply + 8, 4), fiddlequill_value(count), fiddlequill_value(grant.result));
+    make_site(&site, cell);
+    struct siting whole = {.site = &site};
+    site_job(&whole);
+    printf("judged: worst %" PRIu32 "; counted there: %" PRIu32 "; granted: %" PRIu32 "; the last sign: worst %" PRIu32
+           "\n",
+           get_number(ours.reply + 8, 4), fiddlequill_value(count), fiddlequill_value(grant.result),
+           get_number(whole.reply + (SIGNS - 1) * FIDDLEQUILL_ANSWER_BYTES + 8, 4));
     return same_answer(&doubling, &ours) ? 0 : 1;
 }
 

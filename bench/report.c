@@ -14,6 +14,8 @@ size_t differences(const struct results *results)
         found += !results->row[i].agree;
     for (size_t i = 0; i < results->grants; i++)
         found += !results->grant[i].agree;
+    for (size_t i = 0; i < results->sites; i++)
+        found += !results->site[i].agree;
     return found;
 }
 
@@ -68,6 +70,19 @@ static double most_judgements(const struct results *results)
     return most;
 }
 
+static double site_ratio(const struct site_row *row)
+{
+    return row->site / row->singles;
+}
+
+static double most_site_ratio(const struct results *results)
+{
+    double most = 0;
+    for (size_t i = 0; i < results->sites; i++)
+        most = site_ratio(&results->site[i]) > most ? site_ratio(&results->site[i]) : most;
+    return most;
+}
+
 static void print_goal(FILE *out, const char *what, bool at_least, double goal, double measured)
 {
     bool reached = at_least ? measured >= goal : measured <= goal;
@@ -83,6 +98,19 @@ static void print_cell_goal(FILE *out, const struct results *results, const char
     snprintf(what, sizeof what, "%s, %" PRIu32 " / %" PRIu32 " / %" PRIu32 "%s", ratio, cell.w, cell.slots, cell.k,
              row->way == FP_SAMPLE ? " (~)" : "");
     print_goal(out, what, at_least, goal, measured(row));
+}
+
+/* No row may lose by the one call, and the aim is that each gains. */
+static void print_site_goals(FILE *out, const struct results *results)
+{
+    char what[80];
+    for (size_t i = 0; i < results->sites; i++) {
+        const struct cell *cell = &results->site[i].cell;
+        snprintf(what, sizeof what, "a site ÷ single calls, %" PRIu32 " / %" PRIu32 " / %" PRIu32, cell->w,
+                 cell->slots, cell->k);
+        print_goal(out, what, false, 1, site_ratio(&results->site[i]));
+    }
+    print_goal(out, "a site ÷ single calls, the most of all (the aim)", false, 0.8, most_site_ratio(results));
 }
 
 static const struct {
@@ -108,6 +136,7 @@ static void print_goals(FILE *out, const struct results *r)
         print_cell_goal(out, r, "ours ÷ doubling", doubling_goals[i].cell, false, doubling_goals[i].most,
                         doubling_ratio);
     print_goal(out, "a grant of up to 64 slots, in judgements, the most", false, 7.5, most_judgements(r));
+    print_site_goals(out, r);
 }
 
 /* ---- the report ---- */
@@ -180,6 +209,18 @@ static void print_grants(FILE *out, const struct results *results)
     }
 }
 
+static void print_sites(FILE *out, const struct results *results)
+{
+    fprintf(out, "| w | slots | k | site ÷ single calls | site (µs) | single calls (µs) | spread | answers |\n"
+                 "|---:|---:|---:|---:|---:|---:|---:|---|\n");
+    for (size_t i = 0; i < results->sites; i++) {
+        const struct site_row *row = &results->site[i];
+        fprintf(out, "| %" PRIu32 " | %" PRIu32 " | %" PRIu32 " | %.2f | %.2f | %.2f | %.2f | %s |\n", row->cell.w,
+                row->cell.slots, row->cell.k, site_ratio(row), row->site / 1e3, row->singles / 1e3, row->spread,
+                row->agree ? "all equal" : "DIFFERENT");
+    }
+}
+
 /* Ratios stand before times in every table: they are what carries over to another machine. */
 void print_report(FILE *out, const struct results *results)
 {
@@ -204,35 +245,46 @@ void print_report(FILE *out, const struct results *results)
     fprintf(out, "\n## Grants\n\nAll slots are free, m = k. A judgement is of the same wheel with the granted slots "
                  "(all, where refused).\n\n");
     print_grants(out, results);
+    fprintf(out, "\n## A site\n\n%d signs in one call, against a call of the archive for each. They share a slot table "
+                 "made as above and differ\nin id and by up to two ticks in e. Both answers are compared, and with "
+                 "doubling's.\n\n", SIGNS);
+    print_sites(out, results);
     fprintf(out, "\n## Conditions\n\n- machine: %s\n", machine != NULL ? machine : "not told");
     print_compiler(out);
     fprintf(out, "- flags: %s\n- archive: %s\n", BENCH_FLAGS, archive != NULL ? archive : "as it was built");
     fprintf(out, "- runs: medians of %d rounds of at least %.0f µs of processor time each, taking turns\n", ROUNDS,
             batch_ns / 1e3);
-    fprintf(out, "\nbench: %zu cases, %zu differences\n", results->rows + results->grants, differences(results));
+    fprintf(out, "\nbench: %zu cases, %zu differences\n", results->rows + results->grants + results->sites,
+            differences(results));
 }
 
 void print_csv(FILE *out, const struct results *results)
 {
     fprintf(out, "case,w,slots,k,zone_starts,fp_timed,fp_ns,doubling_ns,byte_stage_ns,ours_ns,floor_ns,"
-                 "fp_over_ours,ours_over_doubling,spread,against_w,against_slots,against_k,growth,judgements\n");
+                 "fp_over_ours,ours_over_doubling,spread,against_w,against_slots,against_k,growth,judgements,site_ns,"
+                 "singles_ns,site_over_singles\n");
     for (size_t i = 0; i < results->rows; i++) {
         const struct row *r = &results->row[i];
         fprintf(out, "judge,%" PRIu32 ",%" PRIu32 ",%" PRIu32 ",%" PRIu32 ",%s,", r->cell.w, r->cell.slots, r->cell.k,
                 r->zones, way_names[r->way]);
-        fprintf(out, "%.1f,%.1f,%.1f,%.1f,%.1f,%.3f,%.4f,%.3f,,,,,\n", r->fp, r->doubling, r->bytewise, r->ours,
+        fprintf(out, "%.1f,%.1f,%.1f,%.1f,%.1f,%.3f,%.4f,%.3f,,,,,,,,\n", r->fp, r->doubling, r->bytewise, r->ours,
                 r->floor, fp_ratio(r), doubling_ratio(r), r->spread);
     }
     for (size_t i = 0; i < results->growths; i++) {
         const struct growth *g = &results->growth[i];
         fprintf(out, "growth in %s,", growth_names[g->in]);
         fprintf(out, "%" PRIu32 ",%" PRIu32 ",%" PRIu32, g->large.w, g->large.slots, g->large.k);
-        fprintf(out, ",,,,,,,,,,,%" PRIu32 ",%" PRIu32 ",%" PRIu32 ",%.4f,\n", g->small.w, g->small.slots, g->small.k,
-                g->ratio);
+        fprintf(out, ",,,,,,,,,,,%" PRIu32 ",%" PRIu32 ",%" PRIu32 ",%.4f,,,,\n", g->small.w, g->small.slots,
+                g->small.k, g->ratio);
     }
     for (size_t i = 0; i < results->grants; i++) {
         const struct grant_row *g = &results->grant[i];
-        fprintf(out, "grant of %s,%" PRIu32 ",%d,%" PRIu32 ",,,,,,%.1f,,,,,,,,,%.4f\n", g->kind, GRANT_SLOTS * g->v,
+        fprintf(out, "grant of %s,%" PRIu32 ",%d,%" PRIu32 ",,,,,,%.1f,,,,,,,,,%.4f,,,\n", g->kind, GRANT_SLOTS * g->v,
                 GRANT_SLOTS, g->k, g->grant, g->judgements);
+    }
+    for (size_t i = 0; i < results->sites; i++) {
+        const struct site_row *s = &results->site[i];
+        fprintf(out, "site of %d,%" PRIu32 ",%" PRIu32 ",%" PRIu32 ",,,,,,,,,,%.3f,,,,,,%.1f,%.1f,%.4f\n", SIGNS,
+                s->cell.w, s->cell.slots, s->cell.k, s->spread, s->site, s->singles, site_ratio(s));
     }
 }

@@ -7,7 +7,7 @@
 #include <stdbool.h>
 #include <stdio.h>
 
-enum { ROUNDS = 15, GRANT_SLOTS = 64, ROWS_MAX = 60, GROWTHS_MAX = 32, GRANTS_MAX = 36 };
+enum { ROUNDS = 15, GRANT_SLOTS = 64, ROWS_MAX = 60, GROWTHS_MAX = 32, GRANTS_MAX = 36, SITES_MAX = 6 };
 
 static const double batch_ns = 200e3;     /* one timing lasts at least this long */
 static const double fp_rounds_ns = 100e6; /* FP up to here takes its turn in every round */
@@ -44,11 +44,20 @@ struct grant_row {
     bool agree;
 };
 
+/* A site in one call against a call for each of its signs. */
+struct site_row {
+    struct cell cell;
+    double site, singles; /* ns */
+    double spread;
+    bool agree;
+};
+
 struct results {
-    size_t rows, growths, grants;
+    size_t rows, growths, grants, sites;
     struct row row[ROWS_MAX];
     struct growth growth[GROWTHS_MAX];
     struct grant_row grant[GRANTS_MAX];
+    struct site_row site[SITES_MAX];
 };
 
 /* Cases whose answers differ. */

@@ -4,6 +4,7 @@
 
 #include <stdio.h>
 #include <stdlib.h>
+#include <string.h>
 
 /* splitmix64, always from the same seed: every run judges the same tasks */
 uint64_t draw(uint64_t *state)
@@ -84,4 +85,23 @@ void make_workload(struct workload *load, struct cell cell)
     fp_supplies(&load->fp, &least, &largest);
     put_task(load, (least + largest + 1) / 2, h, cell.k / 2);
     open_plan(load);
+}
+
+/* A need at or beyond the ends of the supply would be settled without looking for the worst, so none goes there. */
+void make_site(struct site *site, struct cell cell)
+{
+    static struct workload load;
+    uint32_t least, largest;
+    make_workload(&load, cell);
+    fp_supplies(&load.fp, &least, &largest);
+    site->cell = cell;
+    site->slots_len = load.slots_len;
+    memcpy(site->slots, load.slots, load.slots_len);
+    for (uint32_t i = 0; i < SIGNS; i++) {
+        uint8_t *task = site->tasks + i * FIDDLEQUILL_TASK_BYTES;
+        uint32_t e = load.fp.plan.e + i % 3;
+        memcpy(task, load.task, FIDDLEQUILL_TASK_BYTES);
+        put_number(task, i + 1, 4);
+        put_number(task + 8, e <= largest ? e : largest, 4);
+    }
 }

@@ -16,6 +16,16 @@ struct workload {
     struct fp fp;
 };
 
+enum { SIGNS = 100 };
+
+/* The signs of a site: tasks on one wheel and one slot table that differ in id and, a little, in their need. */
+struct site {
+    struct cell cell;
+    uint8_t tasks[SIGNS * FIDDLEQUILL_TASK_BYTES];
+    uint8_t slots[FIDDLEQUILL_SLOTS_MAX * FIDDLEQUILL_SLOT_BYTES];
+    size_t slots_len;
+};
+
 /* The next number of a fixed row of random ones. */
 uint64_t draw(uint64_t *state);
 
@@ -28,5 +38,7 @@ void put_task(struct workload *load, uint32_t e, uint32_t h, uint32_t m);
 
 /* The task of a cell; exits when the baselines' reader refuses it. */
 void make_workload(struct workload *load, struct cell cell);
+/* A site of tasks around the cell's. */
+void make_site(struct site *site, struct cell cell);
 
 #endif

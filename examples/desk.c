@@ -1,5 +1,6 @@
 /*
- * A small configuration desk: judges every task of a site, in words.
+ * A small configuration desk: judges a whole site in one call and says in words
+ * what came out for each task.
  *
  *   desk FOLDER
  *
@@ -27,7 +28,7 @@ struct task {
 };
 
 struct answer {
-    uint32_t firm, worst, offset;
+    uint32_t number, firm, worst, offset;
 };
 
 static struct task task_of(const uint8_t *bytes)
@@ -45,7 +46,12 @@ static struct task task_of(const uint8_t *bytes)
 
 static struct answer answer_of(const uint8_t *bytes)
 {
-    return (struct answer){get_number(bytes + 6, 2), get_number(bytes + 8, 4), get_number(bytes + 12, 4)};
+    return (struct answer){
+        .number = get_number(bytes + 4, 2),
+        .firm = get_number(bytes + 6, 2),
+        .worst = get_number(bytes + 8, 4),
+        .offset = get_number(bytes + 12, 4),
+    };
 }
 
 static void print_verdict(const struct task *task, const struct answer *answer)
@@ -94,17 +100,15 @@ static void offer_grant(const struct task *task)
         printf("%s\n", fiddlequill_meaning(fiddlequill_number(packed)));
 }
 
-static int judge_one(const struct site *site, const uint8_t *record)
+static int tell_one(const struct site *site, const uint8_t *record, const uint8_t *reply)
 {
-    uint8_t reply[FIDDLEQUILL_ANSWER_BYTES];
     struct task task = task_of(record);
-    uint32_t number = fiddlequill_judge(record, FIDDLEQUILL_TASK_BYTES, site->slots.bytes, site->slots.len, reply,
-                                        sizeof reply);
-    if (number != FIDDLEQUILL_OK) {
-        printf("task %" PRIu32 ": refused with %" PRIu32 ", %s\n", task.id, number, fiddlequill_meaning(number));
+    struct answer answer = answer_of(reply);
+    if (answer.number != FIDDLEQUILL_OK) {
+        printf("task %" PRIu32 ": refused with %" PRIu32 ", %s\n", task.id, answer.number,
+               fiddlequill_meaning(answer.number));
         return 0;
     }
-    struct answer answer = answer_of(reply);
     print_verdict(&task, &answer);
     if (recount(site, record, &answer) != 0)
         return -1;
@@ -121,15 +125,36 @@ static int whole_records(const struct file *file, size_t bytes)
     return -1;
 }
 
+/* Judges all tasks at once, then goes from answer to answer. */
+static int judge_into(const struct site *site, uint8_t *reply, size_t reply_len)
+{
+    uint32_t number = fiddlequill_site(site->tasks.bytes, site->tasks.len, site->slots.bytes, site->slots.len, reply,
+                                       reply_len);
+    if (number != FIDDLEQUILL_OK) {
+        fprintf(stderr, "%s: refused with %" PRIu32 ", %s\n", site->tasks.path, number, fiddlequill_meaning(number));
+        return -1;
+    }
+    int status = 0;
+    for (size_t i = 0; i < site->tasks.len / FIDDLEQUILL_TASK_BYTES; i++)
+        if (tell_one(site, site->tasks.bytes + i * FIDDLEQUILL_TASK_BYTES, reply + i * FIDDLEQUILL_ANSWER_BYTES) != 0)
+            status = -1;
+    return status;
+}
+
+/* The call would refuse a wrong length, too, but not say which file has it. */
 static int judge_site(const struct site *site)
 {
     if (whole_records(&site->tasks, FIDDLEQUILL_TASK_BYTES) != 0 ||
         whole_records(&site->slots, FIDDLEQUILL_SLOT_BYTES) != 0)
         return -1;
-    int status = 0;
-    for (size_t at = 0; at < site->tasks.len; at += FIDDLEQUILL_TASK_BYTES)
-        if (judge_one(site, site->tasks.bytes + at) != 0)
-            status = -1;
+    size_t reply_len = site->tasks.len / FIDDLEQUILL_TASK_BYTES * FIDDLEQUILL_ANSWER_BYTES;
+    uint8_t *reply = reply_len > 0 ? malloc(reply_len) : NULL; /* NULL is fine where no task is to be answered */
+    if (reply == NULL && reply_len > 0) {
+        fprintf(stderr, "%s: no memory for %zu bytes of answers\n", site->tasks.path, reply_len);
+        return -1;
+    }
+    int status = judge_into(site, reply, reply_len);
+    free(reply);
     return status;
 }
 

@@ -227,6 +227,21 @@ uint32_t definition_judge(const uint8_t *task_bytes, size_t task_len, const uint
     return number;
 }
 
+uint32_t definition_site(const uint8_t *tasks, size_t tasks_len, const uint8_t *slots, size_t slots_len,
+                         uint8_t *reply, size_t reply_len)
+{
+    struct verdict unused;
+    const size_t records = tasks_len / TASK_BYTES;
+    if (tasks_len % TASK_BYTES != 0 || slots_len % SLOT_BYTES != 0)
+        return 1;
+    if (reply_len < records * ANSWER_BYTES)
+        return 2;
+    for (size_t i = 0; i < records; i++)
+        definition_judge(tasks + i * TASK_BYTES, TASK_BYTES, slots, slots_len, reply + i * ANSWER_BYTES, ANSWER_BYTES,
+                         &unused);
+    return 0;
+}
+
 static uint64_t packed(uint32_t number, uint64_t value)
 {
     return (uint64_t)number * 4294967296u + value;

@@ -73,6 +73,9 @@ uint64_t definition_supply(const uint8_t *task, size_t task_len, const uint8_t *
                            uint64_t offset);
 uint64_t definition_drop_test(const uint8_t *task, size_t task_len, const uint8_t *slots, size_t slots_len,
                               uint64_t offset);
+/* Every record of a site by itself; what the records' own verdicts are, the reply tells. */
+uint32_t definition_site(const uint8_t *tasks, size_t tasks_len, const uint8_t *slots, size_t slots_len,
+                         uint8_t *reply, size_t reply_len);
 uint64_t definition_grant(uint8_t *marks, size_t n, uint64_t v, const struct strips *strips);
 
 /* Where the first whole record with the id begins, in the site file before the factory file; NULL where neither has it. */

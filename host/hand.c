@@ -25,6 +25,19 @@ struct hand_grant {
     uint64_t result;
 };
 
+/* A record of a site and its answer, byte by byte. */
+struct hand_sign {
+    struct task task;
+    uint8_t answer[ANSWER_BYTES];
+};
+
+struct hand_site {
+    const char *name;
+    uint8_t records, signs[3]; /* how many, and which of the signs below */
+    size_t task_len, slots_len, reply_len;
+    uint32_t number;
+};
+
 /* T of the paper: w 10, slot (0,8), e 4, D 5, h 14, k 2; one field is changed at a time. */
 #define T(E, M) {7, 10, (E), 5, 14, (M), 2, 0, 1}
 #define T_SLOT {{0, 8}}
@@ -66,9 +79,51 @@ static const struct hand_grant grants[] = {
     {"a grant over a 2", 2, 4, 1, {1, 2, 1, 1, 1}, {1, 2, 1, 1, 1}, PACKED(12, 0)},
 };
 
+/* The sheet's slots, and its three tasks with its three lines as answers; then T with e 3, which is P7, and P10. */
+static const uint32_t site_slots[][2] = {{11, 21}, {33, 43}, {0, 8}};
+
+enum { SHEET_1, SHEET_2, SHEET_3, SIGN_P7, SIGN_P10 };
+
+static const struct hand_sign signs[] = {
+    [SHEET_1] = {{1, 55, 27, 70, 70, 3, 10, 0, 2}, {1, 0, 0, 0, 0, 0, 1, 0, 7, 0, 0, 0, 39, 0, 0, 0}},
+    [SHEET_2] = {{2, 10, 4, 5, 14, 1, 2, 2, 1}, {2, 0, 0, 0, 0, 0, 0, 0, 2, 0, 0, 0, 9, 0, 0, 0}},
+    [SHEET_3] = {{3, 10, 0, 5, 14, 1, 2, 2, 1}, {3, 0, 0, 0, 6, 0, 0, 0, 0, 0, 0, 0, 0, 0, 0, 0}},
+    [SIGN_P7] = {{258, 10, 3, 5, 14, 1, 2, 2, 1}, {2, 1, 0, 0, 0, 0, 1, 0, 0, 0, 0, 0, 0, 0, 0, 0}},
+    [SIGN_P10] = {{9, 10, 1, 5, 5, 1, 3, 3, 0}, {9, 0, 0, 0, 0, 0, 0, 0, 3, 0, 0, 0, 0, 0, 0, 0}},
+};
+
+static const struct hand_site sites[] = {
+    {"a site with no records", 0, {0}, 0, 24, 0, 0},
+    {"a site with no records and no slots", 0, {0}, 0, 0, 0, 0},
+    {"a site with no records leaves the reply", 0, {0}, 0, 24, 32, 0},
+    {"a site of P11 alone", 1, {SHEET_1}, 32, 24, 16, 0},
+    {"a site of a refused record alone", 1, {SHEET_3}, 32, 24, 16, 0},
+    {"the sheet as a site", 3, {SHEET_1, SHEET_2, SHEET_3}, 96, 24, 48, 0},
+    {"a refused record between P11 and T", 3, {SHEET_1, SHEET_3, SHEET_2}, 96, 24, 48, 0},
+    {"the same with a byte to spare", 3, {SHEET_1, SHEET_3, SHEET_2}, 96, 24, 49, 0},
+    {"the same with room for a fourth answer", 3, {SHEET_1, SHEET_3, SHEET_2}, 96, 24, 64, 0},
+    {"T, P7 and P10 in a site", 3, {SHEET_2, SIGN_P7, SIGN_P10}, 96, 24, 48, 0},
+    {"the same record three times", 3, {SHEET_1, SHEET_1, SHEET_1}, 96, 24, 48, 0},
+    {"tasks of 31 bytes are refusal 1", 1, {SHEET_1}, 31, 24, 48, 1},
+    {"tasks of 33 bytes are refusal 1", 2, {SHEET_1, SHEET_2}, 33, 24, 48, 1},
+    {"tasks of 63 bytes are refusal 1", 2, {SHEET_1, SHEET_2}, 63, 24, 48, 1},
+    {"slots of 23 bytes are refusal 1", 2, {SHEET_1, SHEET_2}, 64, 23, 48, 1},
+    {"slots of 25 bytes are refusal 1, also with no records", 0, {0}, 0, 25, 48, 1},
+    {"tasks of 63 bytes and no reply are refusal 1", 2, {SHEET_1, SHEET_2}, 63, 24, 0, 1},
+    {"a reply one byte short is refusal 2", 3, {SHEET_1, SHEET_3, SHEET_2}, 96, 24, 47, 2},
+    {"a reply of two answers for three is refusal 2", 3, {SHEET_1, SHEET_2, SHEET_3}, 96, 24, 32, 2},
+    {"no reply for refused records is refusal 2", 1, {SHEET_3}, 32, 24, 0, 2},
+};
+
 size_t hand_count(void)
 {
-    return LENGTH(tasks) + LENGTH(counts) + LENGTH(grants);
+    return LENGTH(tasks) + LENGTH(counts) + LENGTH(grants) + LENGTH(sites);
+}
+
+static void put_slot(uint8_t *bytes, const uint32_t slot[2])
+{
+    put_number(bytes, slot[0], 4);
+    put_number(bytes + 4, slot[1], 4);
 }
 
 static void put_task(struct input *input, const struct hand_task *hand)
@@ -76,10 +131,8 @@ static void put_task(struct input *input, const struct hand_task *hand)
     task_to_bytes(&hand->task, input->task);
     input->task_len = TASK_BYTES;
     input->slots_len = hand->task.count * SLOT_BYTES;
-    for (uint32_t i = 0; i < hand->task.count; i++) {
-        put_number(input->slots + i * SLOT_BYTES, hand->slot[i][0], 4);
-        put_number(input->slots + i * SLOT_BYTES + 4, hand->slot[i][1], 4);
-    }
+    for (uint32_t i = 0; i < hand->task.count; i++)
+        put_slot(input->slots + i * SLOT_BYTES, hand->slot[i]);
 }
 
 static const char *judge_case(const struct hand_task *hand, struct input *input, struct expected *said)
@@ -117,6 +170,28 @@ static const char *grant_case(const struct hand_grant *hand, struct input *input
     return hand->name;
 }
 
+/* The reply holds other bytes before, so that it shows where none is written. */
+static const char *site_case(const struct hand_site *hand, struct input *input, struct expected *said)
+{
+    input->kind = SITE;
+    input->null_when_empty = true;
+    input->task_len = hand->task_len;
+    input->slots_len = hand->slots_len;
+    input->reply_len = hand->reply_len;
+    for (size_t i = 0; i < LENGTH(site_slots); i++)
+        put_slot(input->slots + i * SLOT_BYTES, site_slots[i]);
+    memset(input->reply, 0xa5, SITE_REPLY_ROOM);
+    memset(said->reply, 0xa5, SITE_REPLY_ROOM);
+    for (size_t i = 0; i < hand->records; i++) {
+        const struct hand_sign *sign = &signs[hand->signs[i]];
+        task_to_bytes(&sign->task, input->task + i * TASK_BYTES);
+        if (hand->number == 0)
+            memcpy(said->reply + i * ANSWER_BYTES, sign->answer, ANSWER_BYTES);
+    }
+    said->result = hand->number;
+    return hand->name;
+}
+
 const char *hand_case(size_t i, struct input *input, struct expected *said)
 {
     uint8_t *slots = input->slots;
@@ -127,5 +202,8 @@ const char *hand_case(size_t i, struct input *input, struct expected *said)
     i -= LENGTH(tasks);
     if (i < LENGTH(counts))
         return count_case(&counts[i], input, said);
-    return grant_case(&grants[i - LENGTH(counts)], input, said);
+    i -= LENGTH(counts);
+    if (i < LENGTH(grants))
+        return grant_case(&grants[i], input, said);
+    return site_case(&sites[i - LENGTH(grants)], input, said);
 }

@@ -14,8 +14,16 @@
 
 /* Cells that the definition may add up for one input. */
 static const uint64_t small_work = 200000, medium_work = 8000000, large_work = 100000000, huge_work = 3000000000;
+static const uint64_t record_work = 1000000; /* and for one record of a site */
 
-enum { MEDIUM_EVERY = 100, LARGE_EVERY = 200, HUGE_EVERY = 20000, EDGE_EVERY = 200 };
+enum {
+    MEDIUM_EVERY = 100,
+    LARGE_EVERY = 200,
+    HUGE_EVERY = 20000,
+    EDGE_EVERY = 200,
+    SITE_EVERY = 50,
+    EDGE_SITE_EVERY = 650
+};
 
 const uint32_t wheel_edges[WHEEL_EDGES] = {255,  256,  257,  2047, 2048, 2049,  4095,
                                            4096, 4097, 8191, 8192, 8193, 16383, 16384};
@@ -445,6 +453,14 @@ static void damage_draft(struct rng *rng, struct draft *draft)
     }
 }
 
+static void put_table(uint8_t *slots, const struct table *table)
+{
+    for (uint32_t i = 0; i < table->n; i++) {
+        put_number(slots + i * SLOT_BYTES, table->slot[i][0], 4);
+        put_number(slots + i * SLOT_BYTES + 4, table->slot[i][1], 4);
+    }
+}
+
 /* Lays out the slot buffer: strangers before `first`, the table, strangers after. */
 static void lay_slots(struct rng *rng, struct input *input, const struct draft *draft, size_t first)
 {
@@ -452,10 +468,7 @@ static void lay_slots(struct rng *rng, struct input *input, const struct draft *
     scribble(rng, input->slots, at_most(records, 256) * SLOT_BYTES);
     if (records > 256)
         memset(input->slots + 256 * SLOT_BYTES, (int)below(rng, 256), (records - 256) * SLOT_BYTES);
-    for (uint32_t i = 0; i < draft->table.n; i++) {
-        put_number(input->slots + (first + i) * SLOT_BYTES, draft->table.slot[i][0], 4);
-        put_number(input->slots + (first + i) * SLOT_BYTES + 4, draft->table.slot[i][1], 4);
-    }
+    put_table(input->slots + first * SLOT_BYTES, &draft->table);
     input->slots_len = records * SLOT_BYTES;
 }
 
@@ -504,19 +517,18 @@ static void damage_bytes(struct rng *rng, struct input *input)
 }
 
 /* Damage can turn a cheap task into a vast one that is still accepted: trim it back. */
-static void keep_cheap(struct input *input, uint64_t work)
+static void keep_cheap(const struct input *input, uint8_t *record, uint64_t work)
 {
-    if (refusal_of_sizes(input->task_len, input->slots_len) != 0 ||
-        refusal_of_task(input->task, input->slots, input->slots_len) != 0)
+    if (refusal_of_task(record, input->slots, input->slots_len) != 0)
         return;
-    struct task task = task_of_bytes(input->task);
+    struct task task = task_of_bytes(record);
     struct strips s = strips_of_task(&task);
-    if (input->kind == JUDGE)
-        trim(&s, task.w, 1, work);
-    else
+    if (input->kind == COUNT)
         trim_count(&s, work);
+    else
+        trim(&s, task.w, 1, work);
     strips_into_task(&task, &s);
-    task_to_bytes(&task, input->task);
+    task_to_bytes(&task, record);
 }
 
 static uint64_t some_offset(struct rng *rng, uint64_t w)
@@ -557,7 +569,8 @@ static void make_task_input(struct rng *rng, struct input *input, uint64_t work)
     lay_slots(rng, input, &draft, first);
     if (one_in(rng, 6))
         damage_bytes(rng, input);
-    keep_cheap(input, work);
+    if (refusal_of_sizes(input->task_len, input->slots_len) == 0)
+        keep_cheap(input, input->task, work);
     input->offset = some_offset(rng, task_of_bytes(input->task).w);
     input->reply_len = some_reply_length(rng);
     scribble(rng, input->reply, REPLY_ROOM);
@@ -572,6 +585,11 @@ enum edge_use edge_use_of(const struct task *task)
     if (task->count < SLOTS_MAX || task->k < SOME_STRIPS)
         return EDGE_USES;
     return task->k < MANY_STRIPS_FROM ? EDGE_SOME : EDGE_MANY;
+}
+
+enum edge_use site_edge_use_of(const struct task *task)
+{
+    return task->k < MANY_STRIPS_FROM ? EDGE_SITE : EDGE_SITE_MANY;
 }
 
 static void draft_edge(struct rng *rng, struct draft *draft, uint64_t w, enum edge_use use)
@@ -620,7 +638,7 @@ static void make_edge_grant(struct rng *rng, struct input *input, uint64_t w)
 static void make_edge_input(struct rng *rng, struct input *input, uint64_t number)
 {
     uint64_t w = wheel_edges[number % WHEEL_EDGES];
-    enum edge_use use = (enum edge_use)(number / WHEEL_EDGES % EDGE_USES);
+    enum edge_use use = (enum edge_use)(number / WHEEL_EDGES % EDGE_SITE);
     if (use == EDGE_GRANT)
         make_edge_grant(rng, input, w);
     else
@@ -713,12 +731,236 @@ static void make_grant_input(struct rng *rng, struct input *input, uint64_t work
     keep_grant_cheap(input, work);
 }
 
+/* ---- sites ---- */
+
+/* No records yet, and up to two slots of strangers. */
+static void open_site(struct rng *rng, struct input *input)
+{
+    input->kind = SITE;
+    input->task_len = 0;
+    input->slots_len = below(rng, 3) * SLOT_BYTES;
+    scribble(rng, input->task, SITE_TASKS_ROOM);
+    scribble(rng, input->slots, input->slots_len);
+    scribble(rng, input->reply, SITE_REPLY_ROOM);
+}
+
+static size_t records_of(const struct input *input)
+{
+    return input->task_len / TASK_BYTES;
+}
+
+static void append_task(struct input *input, const struct task *task)
+{
+    task_to_bytes(task, input->task + input->task_len);
+    input->task_len += TASK_BYTES;
+}
+
+/* Appends a record. Its slots go behind those of the others, with strangers between. */
+static void append_draft(struct rng *rng, struct input *input, struct draft *draft, uint64_t damages)
+{
+    struct task *task = &draft->task;
+    size_t before = below(rng, 3), first = input->slots_len / SLOT_BYTES + before;
+    task->id = (uint32_t)draw(rng);
+    task->first = (uint32_t)first;
+    task->count = draft->table.n;
+    draft->after = 0;
+    for (; damages > 0; damages--)
+        damage_draft(rng, draft);
+    strips_into_task(task, &draft->strips);
+    append_task(input, task);
+    size_t len = (before + draft->table.n + draft->after) * SLOT_BYTES;
+    scribble(rng, input->slots + input->slots_len, len);
+    put_table(input->slots + first * SLOT_BYTES, &draft->table);
+    input->slots_len += len;
+}
+
+/* Another task on the slots of an earlier record, or the very same record once more. */
+static void append_sharer(struct rng *rng, struct input *input)
+{
+    struct task task = task_of_bytes(input->task + below(rng, records_of(input)) * TASK_BYTES);
+    if (!one_in(rng, 3)) {
+        task.id = (uint32_t)draw(rng);
+        task.e += (uint32_t)below(rng, 2);
+        task.k = 1 + (uint32_t)below(rng, 2 * MANY_STRIPS_FROM);
+        task.m = (uint32_t)below(rng, task.k + 1);
+    }
+    append_task(input, &task);
+}
+
+/* Mostly a small wheel; one in `rare` is larger, with so few strips that the definition can follow. */
+static void draft_record(struct rng *rng, struct draft *draft, uint64_t rare)
+{
+    if (one_in(rng, rare))
+        draft_holes(rng, draft, wheel_edges[below(rng, WHEEL_EDGES)]);
+    else
+        draft_task(rng, draft, JUDGE, small_work);
+}
+
+static void append_record(struct rng *rng, struct input *input, bool damaged)
+{
+    struct draft draft;
+    if (input->task_len > 0 && one_in(rng, 5)) {
+        append_sharer(rng, input);
+        return;
+    }
+    draft_record(rng, &draft, damaged ? 2 : 8);
+    append_draft(rng, input, &draft, damaged ? 1 + below(rng, 2) : 0);
+}
+
+/* No record is accepted after this, whatever it was before. */
+static void spoil_record(struct rng *rng, uint8_t *record)
+{
+    struct task task = task_of_bytes(record);
+    const uint64_t wheels[] = {0, WHEEL_MAX + 1, UINT32_MAX};
+    switch (below(rng, 8)) {
+    case 0:
+        task.first = 65535;
+        break;
+    case 1:
+        task.w = (uint32_t)pick(rng, wheels, LENGTH(wheels));
+        break;
+    case 2:
+        task.count = SLOTS_MAX + 1;
+        break;
+    case 3:
+        task.e = one_in(rng, 2) ? 0 : NEED_MAX + 1;
+        break;
+    case 4:
+        task.h = one_in(rng, 2) ? 0 : PERIOD_MAX + 1;
+        break;
+    case 5:
+        task.D = one_in(rng, 2) ? 0 : UINT32_MAX;
+        break;
+    case 6:
+        task.k = one_in(rng, 2) ? 0 : STRIPS_MAX + 1;
+        break;
+    default:
+        task.m = UINT32_MAX;
+    }
+    task_to_bytes(&task, record);
+}
+
+/* All records without slots, and none in the buffer. */
+static void take_slots(struct input *input)
+{
+    for (size_t i = 0; i < records_of(input); i++) {
+        struct task task = task_of_bytes(input->task + i * TASK_BYTES);
+        task.first = task.count = 0;
+        task_to_bytes(&task, input->task + i * TASK_BYTES);
+    }
+    input->slots_len = 0;
+}
+
+static size_t some_records(struct rng *rng)
+{
+    const uint64_t edges[] = {0, 0, 1, SITE_RECORDS_MAX};
+    return one_in(rng, 3) ? pick(rng, edges, LENGTH(edges)) : 1 + below(rng, SITE_RECORDS_MAX);
+}
+
+/* Some sites have only bad records, no slot records, or only good ones; in the others a third is damaged. */
+static void fill_site(struct rng *rng, struct input *input, size_t records)
+{
+    enum { ALL_BAD, BARE, ALL_GOOD, MIXED, MOODS = 8 };
+    uint64_t mood = below(rng, MOODS);
+    while (records_of(input) < records)
+        append_record(rng, input, mood >= MIXED && one_in(rng, 3));
+    if (mood == BARE)
+        take_slots(input);
+    for (size_t i = 0; i < records; i++) {
+        uint8_t *record = input->task + i * TASK_BYTES;
+        if (mood == ALL_BAD)
+            spoil_record(rng, record);
+        keep_cheap(input, record, record_work);
+    }
+}
+
+/* Lengths of a site's buffers, beside those that are exact. They go round, so that a short run meets each. */
+enum site_length {
+    REPLY_LONGER,
+    REPLY_MUCH_LONGER,
+    REPLY_BYTE_SHORT,
+    REPLY_ANSWER_SHORT,
+    REPLY_NONE,
+    TASKS_31,
+    TASKS_33,
+    TASKS_63,
+    TASKS_PART,
+    SLOTS_PART,
+    SLOTS_PART_ALONE,
+    SITE_LENGTHS = 18 /* the others are exact */
+};
+
+static size_t site_reply_length(struct rng *rng, size_t answers, enum site_length which)
+{
+    switch (which) {
+    case REPLY_LONGER:
+        return answers + 1;
+    case REPLY_MUCH_LONGER:
+        return answers + 2 + below(rng, REPLY_ROOM - 1);
+    case REPLY_BYTE_SHORT:
+        return answers - at_most(1, answers);
+    case REPLY_ANSWER_SHORT:
+        return answers - at_most(ANSWER_BYTES, answers);
+    case REPLY_NONE:
+        return 0;
+    default:
+        return answers;
+    }
+}
+
+static void cut_site(struct rng *rng, struct input *input, enum site_length which)
+{
+    const size_t tasks[] = {31, 33, 63, input->task_len + 1 + below(rng, TASK_BYTES - 1)};
+    input->reply_len = site_reply_length(rng, records_of(input) * ANSWER_BYTES, which);
+    if (which >= TASKS_31 && which <= TASKS_PART) {
+        input->task_len = tasks[which - TASKS_31];
+        input->reply_len = one_in(rng, 2) ? 0 : input->reply_len; /* then 2 would apply as well */
+    }
+    if (which == SLOTS_PART || which == SLOTS_PART_ALONE)
+        input->slots_len += 1 + below(rng, SLOT_BYTES - 1);
+    if (which == SLOTS_PART_ALONE)
+        input->task_len = 0;
+}
+
+static void make_site_input(struct rng *rng, struct input *input, uint64_t number)
+{
+    open_site(rng, input);
+    fill_site(rng, input, some_records(rng));
+    cut_site(rng, input, (enum site_length)(number % SITE_LENGTHS));
+}
+
+/* Good records, among them one whose wheel is at an edge; wheel and use go round as above. */
+static void make_edge_site(struct rng *rng, struct input *input, uint64_t number)
+{
+    static const enum edge_use uses[] = {EDGE_FEW, EDGE_MANY, EDGE_SOME};
+    uint64_t w = wheel_edges[number % WHEEL_EDGES];
+    enum edge_use use = uses[number / WHEEL_EDGES % LENGTH(uses)];
+    size_t records = 2 + below(rng, 4), place = below(rng, records);
+    struct draft draft;
+    open_site(rng, input);
+    for (size_t i = 0; i < records; i++) {
+        if (i == place)
+            draft_edge(rng, &draft, w, use);
+        else
+            draft_record(rng, &draft, 2);
+        append_draft(rng, input, &draft, 0);
+    }
+    input->reply_len = records * ANSWER_BYTES;
+}
+
+/* ---- all ---- */
+
+/* Sites and edges stand at numbers of their own, which no larger work has either. */
 void make_input(struct input *input, struct rng *rng, uint64_t number)
 {
     uint64_t work = work_for(number), kind = below(rng, 10);
     input->kind = kind < 5 ? JUDGE : kind < 8 ? COUNT : GRANT;
     input->null_when_empty = one_in(rng, 2);
-    if (number % EDGE_EVERY == EDGE_EVERY / 4)
+    if (number % SITE_EVERY == SITE_EVERY / 8)
+        make_site_input(rng, input, number / SITE_EVERY);
+    else if (number % EDGE_SITE_EVERY == 3 * EDGE_SITE_EVERY / 4)
+        make_edge_site(rng, input, number / EDGE_SITE_EVERY);
+    else if (number % EDGE_EVERY == EDGE_EVERY / 4)
         make_edge_input(rng, input, number / EDGE_EVERY);
     else if (input->kind == GRANT)
         make_grant_input(rng, input, work);

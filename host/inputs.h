@@ -4,13 +4,16 @@
 
 #include "definition.h"
 
-enum kind { JUDGE, COUNT, GRANT, KINDS };
+enum kind { JUDGE, COUNT, GRANT, SITE, KINDS };
 
 enum {
     TASK_ROOM = 64,
     SLOT_RECORDS_MAX = 131072, /* first + count can reach 131,070 */
     SLOTS_ROOM = SLOT_RECORDS_MAX * SLOT_BYTES,
     REPLY_ROOM = 64,
+    SITE_RECORDS_MAX = 12,
+    SITE_TASKS_ROOM = SITE_RECORDS_MAX * TASK_BYTES + TASK_BYTES,
+    SITE_REPLY_ROOM = SITE_RECORDS_MAX * ANSWER_BYTES + REPLY_ROOM,
     MARKS_ROOM = 300
 };
 
@@ -18,7 +21,8 @@ struct input {
     enum kind kind;
     bool null_when_empty; /* hand over NULL for a buffer of length 0 */
     size_t task_len, slots_len, reply_len, marks_len;
-    uint8_t task[TASK_ROOM], reply[REPLY_ROOM], marks[MARKS_ROOM];
+    uint8_t task[SITE_TASKS_ROOM], reply[SITE_REPLY_ROOM]; /* one record and its answer, or a whole site's */
+    uint8_t marks[MARKS_ROOM];
     uint8_t *slots; /* SLOTS_ROOM bytes, the caller's */
     uint64_t offset;
     uint64_t v;
@@ -29,11 +33,13 @@ struct input {
 enum { WHEEL_EDGES = 14 };
 extern const uint32_t wheel_edges[WHEEL_EDGES];
 
-/* What must be asked of each of them, and met with drops or granted slots. */
-enum edge_use { EDGE_FEW, EDGE_SOME, EDGE_MANY, EDGE_COUNT, EDGE_GRANT, EDGE_USES };
+/* What must be asked of each of them, and met with drops or granted slots; the last two among a site's records. */
+enum edge_use { EDGE_FEW, EDGE_SOME, EDGE_MANY, EDGE_COUNT, EDGE_GRANT, EDGE_SITE, EDGE_SITE_MANY, EDGE_USES };
 
 /* The use of a judged task, by its strips and slots; EDGE_USES for none. */
 enum edge_use edge_use_of(const struct task *task);
+/* The same of one that is judged in a site. */
+enum edge_use site_edge_use_of(const struct task *task);
 
 struct rng {
     uint64_t state;

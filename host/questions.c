@@ -35,12 +35,12 @@ static struct question make_lookup(struct input *input, struct rng *rng)
     return (struct question){site, factory, site_len, factory_len, high << 32 | some_id(rng)};
 }
 
-/* What would be granted is looked up instead, and what would be judged is asked at its offset. */
+/* What would be granted, or is a whole site, is looked up instead, and what would be judged is asked at its offset. */
 struct question make_question(struct input *input, uint64_t seed, uint64_t i)
 {
     struct rng rng = rng_for(seed, i);
     make_input(input, &rng, i);
-    if (input->kind == GRANT)
+    if (input->kind == GRANT || input->kind == SITE)
         return make_lookup(input, &rng);
     size_t slots_len = input->slots_len < PART_MAX ? input->slots_len : PART_MAX;
     return (struct question){input->task, input->slots, input->task_len, slots_len, input->offset};

@@ -6,6 +6,7 @@
  *
  * Each call's result and the whole of each lent buffer, with guard bytes on
  * both sides, must be as the definition says; inputs must stay as they were.
+ * A site's answers must also be what the archive says of each record alone.
  * The first difference is printed with its seed, number and bytes, and ends
  * the run. So does, at the end, a class of inputs that was never met.
  */
@@ -23,6 +24,7 @@ enum {
     GUARD = 64,
     SETS_MAX = 6,        /* free slots whose sets are all tried after a refusal 13 */
     SETS_WHEEL_MAX = 48, /* and the longest wheel for it */
+    LONG_SITE = 5000,    /* records; their bytes and those of the answers both go beyond 16 bits */
 };
 
 /* ---- lent buffers ---- */
@@ -79,11 +81,14 @@ static bool holds(const struct lent *lent, const uint8_t *content)
 
 static void define(const struct input *in, struct expected *expected)
 {
-    memcpy(expected->reply, in->reply, REPLY_ROOM);
+    memcpy(expected->reply, in->reply, SITE_REPLY_ROOM);
     memcpy(expected->marks, in->marks, MARKS_ROOM);
     if (in->kind == JUDGE)
         expected->result = definition_judge(in->task, in->task_len, in->slots, in->slots_len, expected->reply,
                                             in->reply_len, &expected->verdict);
+    else if (in->kind == SITE)
+        expected->result = definition_site(in->task, in->task_len, in->slots, in->slots_len, expected->reply,
+                                           in->reply_len);
     else if (in->kind == COUNT)
         expected->result = definition_count(in->task, in->task_len, in->slots, in->slots_len, in->offset);
     else
@@ -98,6 +103,8 @@ static uint64_t ask_task(const struct input *in, struct lent_buffers *buffers, s
     if (in->kind == COUNT)
         return fiddlequill_count(task, in->task_len, slots, in->slots_len, in->offset);
     uint8_t *reply = lend(&buffers->reply, in->reply, in->reply_len, null, rng);
+    if (in->kind == SITE)
+        return fiddlequill_site(task, in->task_len, slots, in->slots_len, reply, in->reply_len);
     return fiddlequill_judge(task, in->task_len, slots, in->slots_len, reply, in->reply_len);
 }
 
@@ -129,10 +136,10 @@ static void print_input(const struct input *in)
     }
     print_hex("task", in->task, in->task_len);
     print_hex("slots", in->slots, in->slots_len);
-    if (in->kind == JUDGE)
-        print_hex("reply before", in->reply, in->reply_len);
-    else
+    if (in->kind == COUNT)
         printf("  offset %" PRIu64 "\n", in->offset);
+    else
+        print_hex("reply before", in->reply, in->reply_len);
     printf("  NULL for an empty buffer: %s\n", in->null_when_empty ? "yes" : "no");
 }
 
@@ -164,7 +171,7 @@ static void print_outcome(const struct input *in, const struct expected *expecte
     }
     print_lent("task", &buffers->task, in->task);
     print_lent("slots", &buffers->slots, in->slots);
-    if (in->kind == JUDGE)
+    if (in->kind != COUNT)
         print_lent("reply", &buffers->reply, expected->reply);
 }
 
@@ -186,6 +193,25 @@ static bool worst_holds(const struct input *in, const struct lent_buffers *buffe
     printf("  reported worst %" PRIu32 " at half tick %" PRIu32 ", but %" PRIu64 "/%" PRIu64 " drops %" PRIu32 "\n",
            worst, at, p, q, drops);
     return false;
+}
+
+/* Each answer of a site against the archive's own single one, from the very bytes that the site lent. */
+static bool answers_hold(const struct lent_buffers *buffers)
+{
+    const uint8_t *tasks = buffers->task.room + buffers->task.lead, *slots = buffers->slots.room + buffers->slots.lead;
+    const uint8_t *reply = buffers->reply.room + buffers->reply.lead;
+    for (size_t i = 0; i < buffers->task.len / TASK_BYTES; i++) {
+        uint8_t answer[ANSWER_BYTES];
+        uint32_t number = fiddlequill_judge(tasks + i * TASK_BYTES, TASK_BYTES, slots, buffers->slots.len, answer,
+                                            sizeof answer);
+        if (number != get_number(answer + 4, 2) || memcmp(answer, reply + i * ANSWER_BYTES, sizeof answer) != 0) {
+            printf("  record %zu judged by itself gives %" PRIu32 ":\n", i, number);
+            print_hex("alone", answer, sizeof answer);
+            print_hex("in its site", reply + i * ANSWER_BYTES, sizeof answer);
+            return false;
+        }
+    }
+    return true;
 }
 
 /* Refusal 13 speaks of any set, not only of the first j free slots. */
@@ -215,6 +241,8 @@ static bool agree(const struct input *in, struct lent_buffers *buffers, struct t
         print_outcome(in, &expected, buffers, result);
     if (same && in->kind == JUDGE && result == 0)
         same = worst_holds(in, buffers, tally, rng);
+    if (same && in->kind == SITE && result == 0)
+        same = answers_hold(buffers);
     if (same && in->kind == GRANT && fiddlequill_number(result) == 13)
         same = no_set_holds(in, tally);
     if (!same)
@@ -224,14 +252,14 @@ static bool agree(const struct input *in, struct lent_buffers *buffers, struct t
 
 /* ---- the run ---- */
 
-static const char *const kind_names[KINDS] = {"judge", "count", "grant"};
+static const char *const kind_names[KINDS] = {"judge", "count", "grant", "site"};
 
 /* The definition must say what the paper prints before it may speak for it. */
 static bool said_by_definition(const struct input *in, const struct expected *said)
 {
     struct expected expected = {0};
     define(in, &expected);
-    return expected.result == said->result && memcmp(expected.reply, said->reply, REPLY_ROOM) == 0 &&
+    return expected.result == said->result && memcmp(expected.reply, said->reply, SITE_REPLY_ROOM) == 0 &&
            memcmp(expected.marks, said->marks, MARKS_ROOM) == 0;
 }
 
@@ -252,6 +280,30 @@ static bool hand_cases_agree(struct input *in, struct lent_buffers *buffers)
     return true;
 }
 
+/* T of the paper again and again, with needs from a refused 0 to more than any supply, each record with its own id. */
+static bool long_site_agrees(void)
+{
+    static uint8_t tasks[LONG_SITE * TASK_BYTES], slots[SLOT_BYTES] = {[4] = 8}, reply[LONG_SITE * ANSWER_BYTES];
+    struct lent_buffers buffers = {lent_room(sizeof tasks), lent_room(sizeof slots), lent_room(sizeof reply), {0}};
+    struct rng rng = rng_for(0, 1);
+    for (uint32_t i = 0; i < LONG_SITE; i++) {
+        struct task task = {i, 10, i % 7, 5, 14, 1, 2, 0, 1};
+        task_to_bytes(&task, tasks + i * TASK_BYTES);
+    }
+    const uint8_t *lent_tasks = lend(&buffers.task, tasks, sizeof tasks, false, &rng);
+    const uint8_t *lent_slots = lend(&buffers.slots, slots, sizeof slots, false, &rng);
+    uint8_t *lent_reply = lend(&buffers.reply, reply, sizeof reply, false, &rng);
+    uint32_t number = fiddlequill_site(lent_tasks, sizeof tasks, lent_slots, sizeof slots, lent_reply, sizeof reply);
+    bool same = number == definition_site(tasks, sizeof tasks, slots, sizeof slots, reply, sizeof reply);
+    same = same && holds(&buffers.task, tasks) && holds(&buffers.slots, slots) && holds(&buffers.reply, reply);
+    same = same && answers_hold(&buffers);
+    printf("second: a site of %d records %s\n", LONG_SITE, same ? "as by definition" : "DIFFERS from the definition");
+    free(buffers.task.room);
+    free(buffers.slots.room);
+    free(buffers.reply.room);
+    return same;
+}
+
 static bool seeded_inputs_agree(struct input *in, struct lent_buffers *buffers, struct tally *tally, uint64_t inputs,
                                 uint64_t seed)
 {
@@ -270,7 +322,8 @@ static bool seeded_inputs_agree(struct input *in, struct lent_buffers *buffers, 
 static bool run(struct input *in, struct lent_buffers *buffers, uint64_t inputs, uint64_t seed)
 {
     struct tally tally = {0};
-    if (!hand_cases_agree(in, buffers) || !seeded_inputs_agree(in, buffers, &tally, inputs, seed))
+    if (!hand_cases_agree(in, buffers) || !long_site_agrees() ||
+        !seeded_inputs_agree(in, buffers, &tally, inputs, seed))
         return false;
     unsigned never = tally_print(&tally);
     printf("second: %" PRIu64 " inputs, 0 differences", inputs);
@@ -284,7 +337,7 @@ int main(int argc, char **argv)
 {
     uint64_t inputs = argc > 1 ? number_argument("second", argv[1]) : DEFAULT_INPUTS;
     uint64_t seed = argc > 2 ? number_argument("second", argv[2]) : DEFAULT_SEED;
-    struct lent_buffers buffers = {lent_room(TASK_ROOM), lent_room(SLOTS_ROOM), lent_room(REPLY_ROOM),
+    struct lent_buffers buffers = {lent_room(SITE_TASKS_ROOM), lent_room(SLOTS_ROOM), lent_room(SITE_REPLY_ROOM),
                                    lent_room(MARKS_ROOM)};
     struct lent slots = lent_room(SLOTS_ROOM);
     struct input in = {.slots = slots.room};

@@ -15,16 +15,28 @@
 #include <stdlib.h>
 #include <string.h>
 
-enum { STACK = 1 << 20, PAINT = 0xa5, PAGE = 4096 };
+enum { STACK = 1 << 20, PAINT = 0xa5, PAGE = 4096, SITE_TASKS = 3 };
 
 /* The largest wheel, slot table and k; a need that makes some strips drop. */
 struct biggest {
     uint8_t task[FIDDLEQUILL_TASK_BYTES];
     uint8_t slots[FIDDLEQUILL_SLOTS_MAX * FIDDLEQUILL_SLOT_BYTES];
     uint8_t reply[FIDDLEQUILL_ANSWER_BYTES];
+    uint8_t site[SITE_TASKS * FIDDLEQUILL_TASK_BYTES], replies[SITE_TASKS * FIDDLEQUILL_ANSWER_BYTES];
     uint8_t marks[FIDDLEQUILL_GRANT_SLOTS_MAX];
     uint32_t w, e, h, k, number;
 };
+
+/* The same wheel with all strips, with as many as a byte counts, and with a few: the judge may go other ways. */
+static void fill_site(struct biggest *b)
+{
+    static const uint32_t strips[SITE_TASKS] = {FIDDLEQUILL_STRIPS_MAX, 255, 10};
+    for (size_t i = 0; i < SITE_TASKS; i++) {
+        uint8_t *task = b->site + i * sizeof b->task;
+        memcpy(task, b->task, sizeof b->task);
+        put_number(task + 24, strips[i], 4);
+    }
+}
 
 static void fill(struct biggest *b, uint32_t w)
 {
@@ -38,6 +50,7 @@ static void fill(struct biggest *b, uint32_t w)
         put_number(b->task + 4 * i, fields[i], 4);
     put_number(b->task + 28, 0, 2);
     put_number(b->task + 30, FIDDLEQUILL_SLOTS_MAX, 2);
+    fill_site(b);
     for (uint32_t i = 0; i < FIDDLEQUILL_SLOTS_MAX; i++) {
         put_number(b->slots + i * FIDDLEQUILL_SLOT_BYTES, i * pitch, 4);
         put_number(b->slots + i * FIDDLEQUILL_SLOT_BYTES + 4, i * pitch + pitch / 2, 4);
@@ -55,6 +68,16 @@ static void *judge(void *context)
 {
     struct biggest *b = context;
     b->number = fiddlequill_judge(b->task, sizeof b->task, b->slots, sizeof b->slots, b->reply, sizeof b->reply);
+    return NULL;
+}
+
+/* A call isn't refused for its records; but a refused record needs little stack and would measure nothing. */
+static void *site(void *context)
+{
+    struct biggest *b = context;
+    b->number = fiddlequill_site(b->site, sizeof b->site, b->slots, sizeof b->slots, b->replies, sizeof b->replies);
+    for (size_t i = 0; i < SITE_TASKS && b->number == FIDDLEQUILL_OK; i++)
+        b->number = get_number(b->replies + i * FIDDLEQUILL_ANSWER_BYTES + 4, 2);
     return NULL;
 }
 
@@ -108,7 +131,7 @@ int main(void)
     static const struct {
         const char *name;
         void *(*call)(void *);
-    } calls[] = {{"judge", judge}, {"count", count}, {"grant", grant}};
+    } calls[] = {{"judge", judge}, {"site", site}, {"count", count}, {"grant", grant}};
     static const uint32_t wheels[] = {128, 1280, 4096, FIDDLEQUILL_WHEEL_MAX};
     size_t deepest = 0;
     for (size_t i = 0; i < sizeof calls / sizeof *calls; i++)

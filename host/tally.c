@@ -3,6 +3,7 @@
 
 #include <inttypes.h>
 #include <stdio.h>
+#include <string.h>
 
 static void note(struct tally *tally, enum input_class which, bool met)
 {
@@ -11,7 +12,7 @@ static void note(struct tally *tally, enum input_class which, bool met)
 
 static uint32_t number_of(enum kind kind, uint64_t result)
 {
-    return (uint32_t)(kind == JUDGE ? result : result >> 32);
+    return (uint32_t)(kind == JUDGE || kind == SITE ? result : result >> 32);
 }
 
 /* Above 32 bits, yet inside the bounds for one who looks at the low 32 only. */
@@ -217,6 +218,139 @@ static void add_grant(struct tally *tally, const struct input *input, const stru
     note(tally, WIDE_M, number == 10 && wide(s->m, 0, s->k));
 }
 
+/* ---- sites ---- */
+
+/* A record of a site and what its answer should say. */
+struct sign {
+    struct task task;
+    uint32_t number, worst;
+};
+
+static struct sign sign_of(const struct input *input, const struct expected *expected, size_t i)
+{
+    const uint8_t *answer = expected->reply + i * ANSWER_BYTES;
+    return (struct sign){task_of_bytes(input->task + i * TASK_BYTES), get_number(answer + 4, 2),
+                         get_number(answer + 8, 4)};
+}
+
+/* Arrays are taken in sizes; which of them would a wheel take? */
+enum { ARRAY_SIZES = 4 };
+
+static unsigned size_for(uint32_t w)
+{
+    static const uint32_t sizes[ARRAY_SIZES] = {256, 2048, 4096, WHEEL_MAX};
+    unsigned size = 0;
+    while (size < ARRAY_SIZES && w > sizes[size])
+        size++;
+    return size;
+}
+
+/* What one record leaves in the arrays must not show in the next one's answer. */
+static void add_neighbours(struct tally *tally, const struct sign *one, const struct sign *next)
+{
+    unsigned size = size_for(one->task.w), next_size = size_for(next->task.w);
+    bool many = one->task.k > 255, next_many = next->task.k > 255;
+    if (one->worst == 0 || next->worst == 0)
+        return;
+    note(tally, SITE_SMALLER_NEXT, next_size < size);
+    note(tally, SITE_LARGER_NEXT, next_size > size);
+    note(tally, SITE_FEWER_NEXT, many && !next_many);
+    note(tally, SITE_MORE_NEXT, !many && next_many);
+}
+
+static bool share_slots(const struct task *a, const struct task *b)
+{
+    return a->count > 0 && b->count > 0 && a->first < b->first + b->count && b->first < a->first + a->count;
+}
+
+/* Record i beside each one before it. */
+static void add_pairs(struct tally *tally, const struct input *input, const struct sign *signs, size_t i)
+{
+    const uint8_t *record = input->task + i * TASK_BYTES;
+    for (size_t j = 0; j < i && signs[i].number == 0; j++) {
+        bool twice = memcmp(input->task + j * TASK_BYTES, record, TASK_BYTES) == 0;
+        note(tally, SITE_TWICE, twice);
+        note(tally, SITE_SHARED, signs[j].number == 0 && !twice && share_slots(&signs[i].task, &signs[j].task));
+    }
+}
+
+/* The largest wheels of accepted and of refused records decide which arrays are taken. */
+static void add_wheels(struct tally *tally, const struct sign *signs, size_t n)
+{
+    bool dropped[ARRAY_SIZES] = {false}, past = false, past_before = false, some_good = false, some_bad = false;
+    unsigned sizes = 0, good = 0, bad = 0;
+    for (size_t i = 0; i < n; i++) {
+        unsigned size = size_for(signs[i].task.w);
+        if (signs[i].number == 0) {
+            some_good = true;
+            good = size > good ? size : good;
+            dropped[size] |= signs[i].worst > 0;
+            past_before |= past;
+        } else if (size < ARRAY_SIZES) {
+            some_bad = true;
+            bad = size > bad ? size : bad;
+        } else {
+            past = true;
+        }
+    }
+    for (unsigned size = 0; size < ARRAY_SIZES; size++)
+        sizes += dropped[size];
+    note(tally, SITE_SIZES, sizes >= 3);
+    note(tally, SITE_REFUSED_LARGEST, some_good && some_bad && bad > good);
+    note(tally, SITE_PAST_WHEEL, past_before);
+}
+
+static void add_signs(struct tally *tally, const struct input *input, const struct sign *signs, size_t n)
+{
+    size_t good = 0;
+    for (size_t i = 0; i < n; i++) {
+        tally->answers[signs[i].number]++;
+        good += signs[i].number == 0;
+        note_edge(tally, signs[i].task.w, site_edge_use_of(&signs[i].task), signs[i].worst > 0 && n > 1);
+        note(tally, SITE_BETWEEN, i > 0 && i + 1 < n && signs[i - 1].number == 0 && signs[i].number != 0 &&
+                                      signs[i + 1].number == 0);
+        if (i > 0)
+            add_neighbours(tally, &signs[i - 1], &signs[i]);
+        add_pairs(tally, input, signs, i);
+    }
+    note(tally, SITE_ONE, n == 1 && good == 1);
+    note(tally, SITE_ALL_GOOD, n > 1 && good == n);
+    note(tally, SITE_ALL_REFUSED, n > 1 && good == 0);
+    note(tally, SITE_BARE, good > 0 && input->slots_len == 0);
+}
+
+static void add_answered_site(struct tally *tally, const struct input *input, const struct expected *expected)
+{
+    struct sign signs[SITE_RECORDS_MAX];
+    size_t n = input->task_len / TASK_BYTES, spare = input->reply_len - n * ANSWER_BYTES;
+    for (size_t i = 0; i < n; i++)
+        signs[i] = sign_of(input, expected, i);
+    add_signs(tally, input, signs, n);
+    add_wheels(tally, signs, n);
+    note(tally, SITE_EMPTY, n == 0);
+    note(tally, SITE_EMPTY_SLOTS, n == 0 && input->slots_len > 0);
+    note(tally, SITE_EMPTY_REPLY, n == 0 && spare > 0);
+    note(tally, SITE_NULL, n == 0 && input->slots_len == 0 && input->reply_len == 0 && input->null_when_empty);
+    note(tally, SITE_MOST, n == SITE_RECORDS_MAX);
+    note(tally, SITE_LONG_REPLY, n > 0 && spare == 1);
+    note(tally, SITE_LONGER_REPLY, n > 0 && spare >= ANSWER_BYTES);
+}
+
+static void add_refused_site(struct tally *tally, const struct input *input, uint32_t number)
+{
+    size_t n = input->task_len / TASK_BYTES, answers = n * ANSWER_BYTES;
+    bool whole = input->task_len % TASK_BYTES == 0;
+    note(tally, SITE_31, number == 1 && input->task_len == 31);
+    note(tally, SITE_33, number == 1 && input->task_len == 33);
+    note(tally, SITE_63, number == 1 && input->task_len == 63);
+    note(tally, SITE_SLOTS_ODD, number == 1 && whole && n > 0);
+    note(tally, SITE_SLOTS_ODD_ALONE, number == 1 && whole && n == 0);
+    note(tally, SITE_ORDER_1_2, number == 1 && input->reply_len < answers);
+    note(tally, SITE_BYTE_SHORT, number == 2 && input->reply_len + 1 == answers);
+    note(tally, SITE_ANSWER_SHORT, number == 2 && n > 1 && input->reply_len + ANSWER_BYTES == answers);
+    note(tally, SITE_REPLY_EMPTY, number == 2 && input->reply_len == 0);
+}
+
 /* ---- all ---- */
 
 void tally_add(struct tally *tally, const struct input *input, const struct expected *expected)
@@ -225,6 +359,10 @@ void tally_add(struct tally *tally, const struct input *input, const struct expe
     tally->numbers[input->kind][number]++;
     if (input->kind == GRANT)
         add_grant(tally, input, expected, number);
+    else if (input->kind == SITE && number == 0)
+        add_answered_site(tally, input, expected);
+    else if (input->kind == SITE)
+        add_refused_site(tally, input, number);
     else
         add_task(tally, input, expected, number);
 }
@@ -237,34 +375,46 @@ static bool knows(enum kind kind, uint32_t number)
         return number <= 10;
     case COUNT:
         return number <= 11 && number != 2;
+    case SITE:
+        return number <= 2;
     default:
         return number == 0 || (number >= 6 && number <= 10) || number >= 12;
     }
 }
 
+/* A count and whether it was to be met and wasn't; a dash for a number that isn't known there. */
+static unsigned print_known(bool known, uint64_t met)
+{
+    if (known)
+        printf(" %10" PRIu64, met);
+    else
+        printf(" %10s", "-");
+    return known && met == 0;
+}
+
 static unsigned print_numbers(const struct tally *tally)
 {
     unsigned never = 0;
-    printf("%-8s %10s %10s %10s\n", "refusal", "judge", "count", "grant");
+    printf("%-8s %10s %10s %10s %10s %10s\n", "refusal", "judge", "count", "grant", "site", "in a site");
     for (uint32_t number = 0; number < NUMBERS; number++) {
         printf("%-8" PRIu32, number);
-        for (enum kind kind = JUDGE; kind < KINDS; kind++) {
-            if (knows(kind, number))
-                printf(" %10" PRIu64, tally->numbers[kind][number]);
-            else
-                printf(" %10s", "-");
-            never += knows(kind, number) && tally->numbers[kind][number] == 0;
-        }
+        for (enum kind kind = JUDGE; kind < KINDS; kind++)
+            never += print_known(knows(kind, number), tally->numbers[kind][number]);
+        never += print_known(knows(JUDGE, number) && number != 1 && number != 2, tally->answers[number]);
         printf("\n");
     }
     return never;
 }
 
-/* Each wheel at an edge, with something dropped or granted: judged with few strips, and with 64 slots and many strips; counted; granted. */
+/*
+ * Each wheel at an edge, with something dropped or granted: judged with few strips, and with 64 slots and many strips;
+ * counted; granted; judged in a site, with k to 255 and above.
+ */
 static unsigned print_edges(const struct tally *tally)
 {
     unsigned never = 0;
-    printf("%-8s %10s %10s %10s %10s %10s\n", "wheel", "k to 4", "64, to 255", "64, k 256+", "count", "grant");
+    printf("%-8s %10s %10s %10s %10s %10s %10s %10s\n", "wheel", "k to 4", "64, to 255", "64, k 256+", "count", "grant",
+           "site", "site, 256+");
     for (size_t i = 0; i < WHEEL_EDGES; i++) {
         printf("%-8" PRIu32, wheel_edges[i]);
         for (enum edge_use use = EDGE_FEW; use < EDGE_USES; use++) {

@@ -8,8 +8,8 @@ enum { NUMBERS = 14 }; /* refusals 1 to 13, and 0 */
 
 /* What should come out, by definition. */
 struct expected {
-    uint64_t result; /* as the call returns it: plain for judging, packed otherwise */
-    uint8_t reply[REPLY_ROOM], marks[MARKS_ROOM];
+    uint64_t result; /* as the call returns it: plain for judging a task or a site, packed otherwise */
+    uint8_t reply[SITE_REPLY_ROOM], marks[MARKS_ROOM];
     struct verdict verdict; /* of an accepted judging */
 };
 
@@ -92,7 +92,37 @@ struct expected {
     X(WIDE_H, "refused 7: h above 2^32 whose low half would do")                                                       \
     X(WIDE_D, "refused 8: d above 2^32 whose low half would do")                                                       \
     X(WIDE_K, "refused 9: k above 2^32 whose low half would do")                                                       \
-    X(WIDE_M, "refused 10: m above 2^32 whose low half would do")
+    X(WIDE_M, "refused 10: m above 2^32 whose low half would do")                                                      \
+    X(SITE_EMPTY, "site: no records")                                                                                  \
+    X(SITE_EMPTY_SLOTS, "site: no records, but slots")                                                                 \
+    X(SITE_EMPTY_REPLY, "site: no records, but a reply")                                                               \
+    X(SITE_NULL, "site: NULL for tasks, slots and reply")                                                              \
+    X(SITE_ONE, "site: one record, accepted")                                                                          \
+    X(SITE_MOST, "site: 12 records")                                                                                   \
+    X(SITE_ALL_GOOD, "site: several records, all accepted")                                                            \
+    X(SITE_ALL_REFUSED, "site: several records, all refused")                                                          \
+    X(SITE_BETWEEN, "site: a refused record between two accepted ones")                                                \
+    X(SITE_SIZES, "site: wheels of three sizes of arrays or more, with drops")                                         \
+    X(SITE_SMALLER_NEXT, "site: a wheel right behind one of a larger size, drops in both")                             \
+    X(SITE_LARGER_NEXT, "site: a wheel right behind one of a smaller size, drops in both")                             \
+    X(SITE_FEWER_NEXT, "site: k to 255 right behind k above 255, drops in both")                                       \
+    X(SITE_MORE_NEXT, "site: k above 255 right behind k to 255, drops in both")                                        \
+    X(SITE_REFUSED_LARGEST, "site: the largest size is a refused record's alone")                                      \
+    X(SITE_PAST_WHEEL, "site: w above 16,384 before an accepted record")                                               \
+    X(SITE_SHARED, "site: two accepted tasks share slots")                                                             \
+    X(SITE_TWICE, "site: an accepted record twice")                                                                    \
+    X(SITE_BARE, "site: an accepted record and no slot records")                                                       \
+    X(SITE_LONG_REPLY, "site: a reply one byte longer")                                                                \
+    X(SITE_LONGER_REPLY, "site: a reply longer by an answer or more")                                                  \
+    X(SITE_31, "site refused 1: tasks of 31 bytes")                                                                    \
+    X(SITE_33, "site refused 1: tasks of 33 bytes")                                                                    \
+    X(SITE_63, "site refused 1: tasks of 63 bytes")                                                                    \
+    X(SITE_SLOTS_ODD, "site refused 1: slots not a multiple of 8")                                                     \
+    X(SITE_SLOTS_ODD_ALONE, "site refused 1: the same with no records")                                                \
+    X(SITE_ORDER_1_2, "site refused 1 before 2: no room for the whole records, either")                                \
+    X(SITE_BYTE_SHORT, "site refused 2: a reply one byte short")                                                       \
+    X(SITE_ANSWER_SHORT, "site refused 2: room for all answers but one")                                               \
+    X(SITE_REPLY_EMPTY, "site refused 2: a reply of 0 bytes")
 
 #define CLASS_ID(id, text) id,
 enum input_class { CLASSES(CLASS_ID) CLASS_COUNT };
@@ -100,6 +130,7 @@ enum input_class { CLASSES(CLASS_ID) CLASS_COUNT };
 
 struct tally {
     uint64_t numbers[KINDS][NUMBERS];
+    uint64_t answers[NUMBERS]; /* the numbers in the answers of sites */
     uint64_t edges[WHEEL_EDGES][EDGE_USES];
     uint64_t met[CLASS_COUNT];
 };

@@ -11,11 +11,12 @@
  *
  *   fiddlequill_judge   how many of k strips drop at worst, from which offset,
  *                       and whether at least m of k are always painted (firm)
+ *   fiddlequill_site    the same for every task of a site, in one call
  *   fiddlequill_count   how many of k strips drop from one given offset
  *   fiddlequill_grant   how many free slots, taken in number order, make a
  *                       task firm; it marks them
  *
- * All three calls fail in one way: they refuse with a number from 1 to 13 and
+ * All four calls fail in one way: they refuse with a number from 1 to 13 and
  * 0 stands for success. Every input gets an answer or a refusal; no content of
  * a buffer is undefined behaviour. What the caller must provide is memory: each
  * pointer has as many readable (reply, marks: writable) bytes as its length
@@ -66,8 +67,8 @@ extern "C" {
 /* Where several apply, the first in the order listed at the function counts. */
 enum fiddlequill_refusal {
     FIDDLEQUILL_OK = 0,             /* not refused */
-    FIDDLEQUILL_BAD_LENGTH = 1,     /* a task length other than 32, or slots that aren't whole records */
-    FIDDLEQUILL_SHORT_REPLY = 2,    /* no room for an answer record */
+    FIDDLEQUILL_BAD_LENGTH = 1,     /* not one task record (a site: whole ones), or slots that aren't whole records */
+    FIDDLEQUILL_SHORT_REPLY = 2,    /* no room for an answer record (a site: for one each) */
     FIDDLEQUILL_BEYOND_SLOTS = 3,   /* first + count goes beyond the last slot record */
     FIDDLEQUILL_BAD_WHEEL = 4,      /* w isn't from 1 to 16,384 */
     FIDDLEQUILL_BAD_SLOTS = 5,      /* more than 64 slots, or one that doesn't fit (see the slot record) */
@@ -138,6 +139,41 @@ uint32_t fiddlequill_judge(const uint8_t *task, size_t task_len,
                            uint8_t *reply, size_t reply_len);
 
 /*
+ * Judges every task of a site, each by itself, and gives the refusal number of
+ * the whole call or 0 (not packed). Tasks that are refused don't refuse the
+ * call: their answers have the number.
+ *
+ *   tasks, tasks_len   task records one behind the other, none at all included
+ *   slots, slots_len   the slot records that first and count of each point into
+ *   reply, reply_len   room for as many answer records; more room is fine
+ *
+ * Refusals in checking order, and what each writes:
+ *   1   tasks_len isn't a multiple of 32, or slots_len isn't one of 8 (looked at
+ *       also where there are no tasks): nothing
+ *   2   reply_len is below 16 bytes for each task: nothing
+ *   0   reply[16 * i .. 16 * i + 15] for each task i, counted from 0: exactly
+ *       the bytes that fiddlequill_judge of that record alone would write
+ * Never written: the reply past the last answer, tasks, slots.
+ *
+ * Success is certain when tasks_len is a multiple of 32, slots_len a multiple
+ * of 8, and reply_len at least half of tasks_len, whatever the records hold.
+ *
+ * For a site of up to 100 signs:
+ *
+ *   static uint8_t reply[100 * FIDDLEQUILL_ANSWER_BYTES];
+ *   uint32_t number = fiddlequill_site(tasks, tasks_len, slots, slots_len,
+ *                                      reply, sizeof reply);
+ *   if (number != FIDDLEQUILL_OK)
+ *       return complain(fiddlequill_meaning(number));
+ *   for (size_t i = 0; i < tasks_len / FIDDLEQUILL_TASK_BYTES; i++)
+ *       print_answer(reply + i * FIDDLEQUILL_ANSWER_BYTES);
+ */
+FIDDLEQUILL_CHECK
+uint32_t fiddlequill_site(const uint8_t *tasks, size_t tasks_len,
+                          const uint8_t *slots, size_t slots_len,
+                          uint8_t *reply, size_t reply_len);
+
+/*
  * Counts the dropped strips when the first one arrives at `offset`, in half
  * ticks. Gives the refusal number and the count, 0 to k, packed in one number:
  * take it apart with fiddlequill_number and fiddlequill_value.
@@ -204,9 +240,9 @@ static inline const char *fiddlequill_meaning(uint32_t number)
     case FIDDLEQUILL_OK:
         return "not refused";
     case FIDDLEQUILL_BAD_LENGTH:
-        return "the task isn't 32 bytes long, or the slots aren't a multiple of 8 bytes";
+        return "the task isn't 32 bytes long (a site: a multiple of 32), or the slots aren't a multiple of 8 bytes";
     case FIDDLEQUILL_SHORT_REPLY:
-        return "the reply buffer is shorter than 16 bytes";
+        return "the reply buffer is shorter than 16 bytes for each task";
     case FIDDLEQUILL_BEYOND_SLOTS:
         return "first + count goes beyond the last slot record";
     case FIDDLEQUILL_BAD_WHEEL:

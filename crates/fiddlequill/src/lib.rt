@@ -3,6 +3,7 @@ ghost use mathlib.Core.Path.{_≡_};
 ghost use Rattle.records.specs.Refusals.{pointRefusal};
 ghost use Rattle.judge.specs.Judge.{Judged};
 ghost use Rattle.judge.specs.Points.{countedAt};
+ghost use Rattle.site.specs.Site.{Sited};
 ghost use Rattle.fiddlequill.specs.Packed.{packed, PackedGrant};
 
 // The refusal number times 2^32 plus the other number.
@@ -18,6 +19,14 @@ pub extern "C" fn fiddlequill_judge(task: &[u8], slots: &[u8], reply: &mut [u8])
     ensures { λ r. ⌜ Judged (now (task .entry)) (now (slots .entry)) (now (reply .entry)) r (now (reply .exit)) ⌝ }
 {
     judge::judge(task, slots, reply)
+}
+
+// Judges every task record of a site on one slot buffer; the result is the refusal number, and each answer goes into its own place of the reply.
+#[no_mangle]
+pub extern "C" fn fiddlequill_site(tasks: &[u8], slots: &[u8], reply: &mut [u8]) -> u32
+    ensures { λ r. ⌜ Sited (now (tasks .entry)) (now (slots .entry)) (now (reply .entry)) r (now (reply .exit)) ⌝ }
+{
+    site::site(tasks, slots, reply)
 }
 
 // Counts the drops from a half tick; the refusal number and the count, packed.

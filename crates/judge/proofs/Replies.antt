@@ -10,7 +10,7 @@ use Rattle.rules.specs.Sums.{bit}
 use Rattle.rules.specs.Worst.{Worst, firmTest}
 use Rattle.rules.proofs.Worst.{firm-agrees}
 use Rattle.octets.specs.Octets.{over}
-use Rattle.limits.specs.Limits.{asked}
+use Rattle.limits.specs.Limits.{asked, mostTicks}
 use Rattle.limits.specs.declared.Task.{Task}
 use Rattle.limits.proofs.Refusals.{at-first, at-next, when-true, when-false}
 use Rattle.records.specs.Records.{replyBytes, taskRecord, boardOf, ticksOf, askedOf, answerBytes}
@@ -21,8 +21,9 @@ use Rattle.records.specs.declared.Checked.the-variants.{Accepted, Refused}
 use Rattle.records.proofs.Parts.{sizes-one}
 use Rattle.records.proofs.Checks.{checked-accepted, checked-refused}
 use Rattle.records.specs.Jobs.{jobTicks}
+use Rattle.room.specs.Room.{Lends}
 use Rattle.judge.specs.Judge.{Judged}
-use Rattle.records.proofs.Accepts.{body-high}
+use Rattle.records.proofs.Accepts.{good-accepted, body-high}
 
 -- ---- rule 7's bit
 
@@ -33,6 +34,17 @@ firm-yes t c l = sym (ap bit (le-leb c (t .k - t .m) l))
 pub firm-no : (t : Task) (c : ℕ) → t .k - t .m < c → 0 ≡ bit (firmTest (asked t) c)
 unfolding firmTest bit
 firm-no t c l = sym (ap bit (lt-leb c (t .k - t .m) l))
+
+-- ---- what is lent
+
+-- Arrays for every wheel that the record may be accepted with serve the accepted one.
+pub lent-accepted :
+    (slots : List ℕ) (r s : TaskRecord) (j : Job) {late map low spare here there : List ℕ} → r ≡ s → checked r slots ≡ Accepted j
+    → (s .w ≤ mostTicks → Lends (s .w) late map low spare here there) → Lends (j .wheel .w) late map low spare here there
+lent-accepted slots r s j e a lent =
+    let ours : j ≡ jobOf s = checked-accepted r slots j a .1 ∙ ap jobOf e in
+    let most : j .wheel .w ≤ mostTicks = good-accepted r slots j a .most in
+    rw ours (lent (rw ours at most))
 
 -- ---- the ways out
 
@@ -80,30 +92,27 @@ module _ (task slots reply : List ℕ) where
           answered = λ z. absurd (bad .1 z);
         }
 
-    pub reply-answered :
-        (j : Job) (f c o : ℕ) (after : List ℕ) → checked r slots ≡ Accepted j
-        → Worst (j .wheel .w) (jobTicks slots j) (asked (j .task)) c o → f ≡ bit (firmTest (asked (j .task)) c)
-        → after ≡ over (answerBytes (r .id) 0 f c o) reply → Judged task slots reply 0 after
-    unfolding ticksOf boardOf
-    reply-answered j f c o after a worst firm written =
-        let ok = checked-accepted r slots j a in
-        let job : j ≡ jobOf (taskRecord task) = ok .1 ∙ ap jobOf e in
-        let here : Worst (taskRecord task .w) (ticksOf (taskRecord task) slots) (askedOf (taskRecord task)) c o =
-        subst (λ (x : Job). Worst (x .wheel .w) (jobTicks slots x) (asked (x .task)) c o) job worst in
-        record {
-          number = body 0 (sym (ok .0));
-          silent = λ low. absurd (not-low 0 low (λ l. absurd (omega arith)));
-          refused = λ l. absurd (omega arith);
-          answered = λ _. record {
-            drops = c;
-            offset = o;
-            firm = firmTest (askedOf (taskRecord task)) c;
-            worst = here;
-            said = firm-agrees _ _ _ c o here;
-            bytes =
-                written
-                ∙ ap (λ (x : TaskRecord). over (answerBytes (x .id) 0 f c o) reply) e
-                ∙ ap (λ x. over (answerBytes (taskRecord task .id) 0 x c o) reply)
-                (firm ∙ ap (λ (x : Job). bit (firmTest (asked (x .task)) c)) job);
-          };
-        }
+    module _ (j : Job) (a : checked r slots ≡ Accepted j) where
+      ours : j ≡ jobOf (taskRecord task)
+      ours = checked-accepted r slots j a .1 ∙ ap jobOf e
+
+      pub reply-answered :
+          (c o : ℕ) (after : List ℕ) → Worst (j .wheel .w) (jobTicks slots j) (asked (j .task)) c o
+          → after ≡ over (answerBytes (r .id) 0 (bit (firmTest (asked (j .task)) c)) c o) reply → Judged task slots reply 0 after
+      unfolding ticksOf boardOf
+      reply-answered c o after worst written =
+          let here : Worst (taskRecord task .w) (ticksOf (taskRecord task) slots) (askedOf (taskRecord task)) c o =
+          subst (λ (x : Job). Worst (x .wheel .w) (jobTicks slots x) (asked (x .task)) c o) ours worst in
+          record {
+            number = body 0 (sym (checked-accepted r slots j a .0));
+            silent = λ low. absurd (not-low 0 low (λ l. absurd (omega arith)));
+            refused = λ l. absurd (omega arith);
+            answered = λ _. record {
+              drops = c;
+              offset = o;
+              firm = firmTest (askedOf (taskRecord task)) c;
+              worst = here;
+              said = firm-agrees _ _ _ c o here;
+              bytes = written ∙ (λ i. over (answerBytes (e i .id) 0 (bit (firmTest (asked (ours i .task)) c)) c o) reply);
+            };
+          }

@@ -6,12 +6,13 @@ mod point;
 ghost use mathlib.Core.Path.{_≡_};
 ghost use Prim.Native.Nat.{_≤_};
 ghost use lib.ListN.{length};
-ghost use Rattle.limits.specs.Limits.{asked};
+ghost use Rattle.limits.specs.Limits.{asked, mostTicks};
 ghost use Rattle.octets.specs.Octets.{over};
 ghost use Rattle.rules.specs.Sums.{bit};
 ghost use Rattle.rules.specs.Worst.{firmTest};
-ghost use Rattle.records.specs.Records.{replyBytes, answerBytes};
-ghost use Rattle.records.specs.Refusals.{pointRefusal};
+ghost use Rattle.records.specs.Records.{replyBytes, answerBytes, taskRecord};
+ghost use Rattle.records.specs.Refusals.{sizes, pointRefusal};
+ghost use Rattle.room.specs.Room.{mostEdges, Lends};
 ghost use Rattle.judge.specs.Judge.{Judged};
 ghost use Rattle.judge.specs.Points.{suppliedAt, droppedAt, countedAt};
 use crate::point::Gate;
@@ -19,6 +20,7 @@ use limits::Task;
 use records::Checked;
 use records::answer::Answer;
 use room::MOST_EDGES;
+use room::Peak;
 
 pub struct Supplied {
     pub number: u32,
@@ -56,6 +58,42 @@ fn write(reply: &mut [u8], a: Answer)
     octets::put(reply, &bytes);
 }
 
+// Writes a refusal, and gives its number.
+fn refuse(reply: &mut [u8], id: usize, bad: u32) -> u32
+    requires { ⌜ replyBytes ≤ length (now reply) ⌝ }
+    ensures { λ r. ⌜ (r ≡ bad) × (now (reply .exit) ≡ over (answerBytes id bad 0 0 0) (now (reply .entry))) ⌝ }
+{
+    write(
+        reply,
+        Answer {
+            id,
+            number: bad,
+            firm: 0,
+            drops: 0,
+            offset: 0,
+        },
+    );
+    bad
+}
+
+// Writes what was found for an accepted task.
+fn answer(reply: &mut [u8], id: usize, task: Task, p: Peak)
+    requires { ⌜ (replyBytes ≤ length (now reply)) × (task .m ≤ task .k) ⌝ }
+    ensures { λ _. ⌜ now (reply .exit) ≡ over (answerBytes id 0 (bit (firmTest (asked task) (p .drops))) (p .drops) (p .offset)) (now (reply .entry)) ⌝ }
+{
+    let f = firm(task, p.drops);
+    write(
+        reply,
+        Answer {
+            id,
+            number: 0,
+            firm: f,
+            drops: p.drops,
+            offset: p.offset,
+        },
+    );
+}
+
 // Judges one task record on a slot buffer and writes the answer record. Refusals 1 and 2 write nothing.
 pub fn judge(task: &[u8], slots: &[u8], reply: &mut [u8]) -> u32
     ensures { λ r. ⌜ Judged (now (task .entry)) (now (slots .entry)) (now (reply .entry)) r (now (reply .exit)) ⌝ }
@@ -70,33 +108,39 @@ pub fn judge(task: &[u8], slots: &[u8], reply: &mut [u8]) -> u32
     let r = records::read(task);
     let id = r.id;
     match records::check(r, slots) {
-        Checked::Refused(bad) => {
-            write(
-                reply,
-                Answer {
-                    id,
-                    number: bad,
-                    firm: 0,
-                    drops: 0,
-                    offset: 0,
-                },
-            );
-            bad
-        }
+        Checked::Refused(bad) => refuse(reply, id, bad),
         Checked::Accepted(job) => {
             let mut runs = [0u16; MOST_EDGES];
             let p = jobs::worst(slots, job, &mut runs);
-            let f = firm(job.task, p.drops);
-            write(
-                reply,
-                Answer {
-                    id,
-                    number: 0,
-                    firm: f,
-                    drops: p.drops,
-                    offset: p.offset,
-                },
-            );
+            answer(reply, id, job.task, p);
+            0
+        }
+    }
+}
+
+// Judges a whole record into room for its answer, in arrays that the caller lends in any state: for many records one after another.
+pub fn judge_in(
+    task: &[u8],
+    slots: &[u8],
+    reply: &mut [u8],
+    runs: &mut [u16],
+    late: &mut [u16],
+    map: &mut [u8],
+    low: &mut [u8],
+    spare: &mut [u8],
+    here: &mut [u16],
+    there: &mut [u16],
+) -> u32
+    requires { ⌜ (sizes (now task) (now slots) ≡ 0) × (replyBytes ≤ length (now reply)) × (length (now runs) ≡ mostEdges) ⌝ }
+    requires { ⌜ (taskRecord (now task) .w ≤ mostTicks → Lends (taskRecord (now task) .w) (now late) (now map) (now low) (now spare) (now here) (now there)) ⌝ }
+    ensures { λ r. ⌜ Judged (now (task .entry)) (now (slots .entry)) (now (reply .entry)) r (now (reply .exit)) ⌝ }
+{
+    let r = records::read(task);
+    match records::check(r, slots) {
+        Checked::Refused(bad) => refuse(reply, r.id, bad),
+        Checked::Accepted(job) => {
+            let p = jobs::worst_in(slots, job, runs, late, map, low, spare, here, there);
+            answer(reply, r.id, job.task, p);
             0
         }
     }

@@ -1,10 +1,11 @@
 -- What is read out of a reply is what judging says. Assumes nothing.
-use mathlib.Core.Path.{_≡_, refl, sym, _∙_}
+use mathlib.Core.Path.{_≡_, refl, sym, ap, _∙_}
 use mathlib.Core.Logic.{_↔_}
 use mathlib.Core.Bool.{Bool, true, false}
 use mathlib.Core.List.{List}
-use Prim.Native.Nat.{ℕ, zero, suc, _≤_, _<_}
+use Prim.Native.Nat.{ℕ, zero, suc, _+_, _*_, _%_, _≤_, _<_}
 use native.Mathlib.Decide.{ℕ-discrete}
+use native.Mathlib.Nat.{add-zero}
 use native.Mathlib.Omega.{arith}
 use borrow.Author.Tests.{le-ltb}
 use lib.ListN.{length, getD}
@@ -14,12 +15,17 @@ use Rattle.rules.specs.Sums.{bit}
 use Rattle.rules.specs.Worst.{Worst, Firm}
 use Rattle.octets.specs.Octets.{le2, le4, over}
 use Rattle.limits.proofs.Refusals.{when-false, otherwise-none, otherwise-some}
-use Rattle.records.specs.Records.{replyBytes, taskRecord, ticksOf, askedOf, answerBytes}
+use Rattle.records.specs.Records.{taskBytes, slotBytes, replyBytes, taskRecord, ticksOf, askedOf, answerBytes}
 use Rattle.records.specs.Refusals.{sizes, room, bodyRefusal, judgeRefusal}
-use Rattle.records.proofs.Parts.{sizes-one}
+use Rattle.records.specs.Lookup.{whole, part}
+use Rattle.records.proofs.Parts.{sizes-one, sizes-good}
 use Rattle.records.proofs.Accepts.{body-high}
 use Rattle.judge.specs.Judge.{Judged, Answered}
-use Rattle.promises.specs.Answers.{Told}
+use Rattle.walk.specs.Walk.{place}
+use Rattle.walk.proofs.Places.{part-long, part-le2, part-le4}
+use Rattle.site.specs.Site.{Sited}
+use Rattle.site.proofs.Sites.{roomy-none}
+use Rattle.promises.specs.Answers.{Told, SiteTold}
 use Rattle.promises.specs.declared.read.Answer.{Answer}
 use Rattle.promises.proofs.Bounds.{back2, back4, worst-small, body-low}
 
@@ -68,10 +74,10 @@ from-body task slots reply long other = go (ℕ-discrete (sizes task slots) 0)
     go (yes good) = otherwise-none _ _ good ∙ otherwise-none _ _ (when-false 2 _ (le-ltb _ _ long))
     go (no bad) = absurd (other (otherwise-some _ _ bad ∙ sizes-one task slots bad))
 
-module _ (task slots reply after : List ℕ) (byte : (i : ℕ) → Fits w8 (getD task i 0)) where
-  small : le4 task 0 < 4294967296
-  small = omega (arith, byte 0, byte 1, byte 2, byte 3)
+pub small : (l : List ℕ) (at : ℕ) → ((i : ℕ) → Fits w8 (getD l i 0)) → le4 l at < 4294967296
+small l at byte = omega (arith, byte at, byte (at + 1), byte (at + 2), byte (at + 3))
 
+module _ (task slots reply after : List ℕ) (known : le4 task 0 < 4294967296) where
   wrote-answer : bodyRefusal (taskRecord task) slots ≡ 0 → Answered task slots reply after → Written task slots 0 after
   wrote-answer good a =
       let sizes = worst-small (taskRecord task) slots (a .drops) (a .offset) good (a .worst) in
@@ -80,7 +86,7 @@ module _ (task slots reply after : List ℕ) (byte : (i : ℕ) → Fits w8 (getD
         firm = bit (a .firm);
         drops = a .drops;
         offset = a .offset;
-        fields = rw (a .bytes) (fields _ _ _ _ _ reply small (omega arith) (omega (arith, firm .0)) (omega (arith, sizes .0)) (omega (arith, sizes .1)));
+        fields = rw (a .bytes) (fields _ _ _ _ _ reply known (omega arith) (omega (arith, firm .0)) (omega (arith, sizes .0)) (omega (arith, sizes .1)));
         worst = λ _. a .worst;
         said = λ _. firm;
         none = λ less. absurd (omega arith);
@@ -93,7 +99,7 @@ module _ (task slots reply after : List ℕ) (byte : (i : ℕ) → Fits w8 (getD
         firm = 0;
         drops = 0;
         offset = 0;
-        fields = rw bytes (fields _ n 0 0 0 reply small (omega arith) (omega arith) (omega arith) (omega arith));
+        fields = rw bytes (fields _ n 0 0 0 reply known (omega arith) (omega arith) (omega arith) (omega arith));
         worst = λ z. absurd (omega arith);
         said = λ z. absurd (omega arith);
         none = λ _. (refl, refl, refl);
@@ -122,3 +128,49 @@ module _ (task slots reply after : List ℕ) (byte : (i : ℕ) → Fits w8 (getD
     where
       read : (a .number ≡ 1 → ⊥) → Written task slots (a .number) after
       read other = wrote (a .number) (j .number ∙ from-body task slots reply long (λ one. other (j .number ∙ one))) j
+
+-- ---- what a site wrote, place by place
+
+module _ (tasks slots reply after : List ℕ) (i : ℕ) (less : i < whole tasks) (room : replyBytes * whole tasks ≤ length reply) where
+  read2 : (k : ℕ) → k + 2 ≤ replyBytes → le2 after (replyBytes * i + k) ≡ le2 (place after i) k
+  unfolding place
+  read2 k fits = sym (part-le2 (replyBytes * i) replyBytes k after fits)
+
+  read4 : (k : ℕ) → k + 4 ≤ replyBytes → le4 after (replyBytes * i + k) ≡ le4 (place after i) k
+  unfolding place
+  read4 k fits = sym (part-le4 (replyBytes * i) replyBytes k after fits)
+
+  roomy-place : replyBytes ≤ length (place reply i)
+  unfolding place
+  roomy-place = omega (arith, part-long (replyBytes * i) replyBytes reply (omega arith))
+
+  small-id : ((j : ℕ) → Fits w8 (getD tasks j 0)) → le4 (part tasks i) 0 < 4294967296
+  unfolding part
+  small-id byte = rw (part-le4 (taskBytes * i) taskBytes 0 tasks (omega arith)) (small tasks (taskBytes * i + 0) byte)
+
+  -- A whole record on a whole slot buffer is refused by its numbers alone.
+  by-numbers :
+      length slots % slotBytes ≡ 0
+      → judgeRefusal (part tasks i) slots (place reply i) ≡ bodyRefusal (taskRecord (part tasks i)) slots
+  unfolding part judgeRefusal room
+  by-numbers table =
+      otherwise-none _ _ (sym (sizes-good (part tasks i) slots (part-long (taskBytes * i) taskBytes tasks (omega arith)) table))
+      ∙ otherwise-none _ _ (when-false 2 _ (le-ltb _ _ roomy-place))
+
+  pub site-told :
+      (a : Answer) → ((j : ℕ) → Fits w8 (getD tasks j 0)) → Sited tasks slots reply (a .number) after
+      → a .id ≡ le4 after (replyBytes * i) → a .refusal ≡ le2 after (replyBytes * i + 4) → a .firm ≡ le2 after (replyBytes * i + 6)
+      → a .drops ≡ le4 after (replyBytes * i + 8) → a .offset ≡ le4 after (replyBytes * i + 12) → SiteTold tasks slots reply i a
+  site-told a byte s id refusal firm drops offset =
+      record {
+        number = s .number;
+        told = λ none.
+            let table = roomy-none tasks slots reply (sym (s .number) ∙ none) .table in
+            let judged = s .each none i less in
+            let written = wrote (part tasks i) slots (place reply i) (place after i) (small-id byte) _ (by-numbers table) judged in
+            let same : a .refusal ≡ judgeRefusal (part tasks i) slots (place reply i) =
+            refusal ∙ read2 4 (omega arith) ∙ written .fields .refusal in
+            told (part tasks i) slots (place reply i) (place after i) (small-id byte) _ roomy-place (rw same judged)
+            (id ∙ ap (le4 after) (sym (add-zero (replyBytes * i))) ∙ read4 0 (omega arith)) (refusal ∙ read2 4 (omega arith))
+            (firm ∙ read2 6 (omega arith)) (drops ∙ read4 8 (omega arith)) (offset ∙ read4 12 (omega arith));
+      }

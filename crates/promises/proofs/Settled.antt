@@ -16,11 +16,12 @@ use Rattle.records.specs.Records.{taskRecord, answerBytes}
 use Rattle.records.specs.Lookup.{part}
 use Rattle.judge.specs.Judge.{Judged, Answered}
 use Rattle.judge.specs.Points.{suppliedAt, droppedAt, countedAt}
+use Rattle.site.proofs.Laws as site
 use Rattle.grants.specs.Grants.{GrantCall, Marked, grantRefusal}
 use Rattle.lines.specs.Lines.{lineOf}
 use Rattle.sheets.specs.Sheets.{Row, Rows, none, more, Sheet, bad, rest}
 use Rattle.fiddlequill.specs.Packed.{packed}
-use Rattle.promises.specs.Settled.{JudgeSettled, PointSettled, PointsSettled, CountSettled, GrantSettled, PackedSettled, LookupSettled, PutSettled, SheetSettled}
+use Rattle.promises.specs.Settled.{JudgeSettled, SiteSettled, PointSettled, PointsSettled, CountSettled, GrantSettled, PackedSettled, LookupSettled, PutSettled, SheetSettled}
 
 -- ---- judging
 
@@ -60,6 +61,11 @@ pub judge-settled : JudgeSettled
 judge-settled task slots reply n n′ after after′ a b =
     let e : n ≡ n′ = a .number ∙ sym (b .number) in
     (e, same-reply task slots reply n′ after after′ (rw e at a) b (kinds n′))
+
+-- ---- a whole site
+
+pub site-settled : SiteSettled
+site-settled = site.site-settled judge-settled
 
 -- ---- the questions at a half tick
 

@@ -7,6 +7,7 @@ use Rattle.records.specs.Refusals.{pointRefusal}
 use Rattle.records.specs.Lookup.{lookedUp}
 use Rattle.judge.specs.Judge.{Judged}
 use Rattle.judge.specs.Points.{suppliedAt, droppedAt, countedAt}
+use Rattle.site.specs.Site.{Sited}
 use Rattle.grants.specs.Grants.{GrantCall}
 use Rattle.lines.specs.Lines.{Put}
 use Rattle.sheets.specs.Sheets.{Filled}
@@ -17,6 +18,12 @@ abbrev pub JudgeSettled : Type 0
 JudgeSettled =
     (task slots reply : List ℕ) (n n′ : ℕ) (after after′ : List ℕ)
     → Judged task slots reply n after → Judged task slots reply n′ after′ → (n ≡ n′) × (after ≡ after′)
+
+-- site::site, fiddlequill_site: the number and the reply.
+abbrev pub SiteSettled : Type 0
+SiteSettled =
+    (tasks slots reply : List ℕ) (n n′ : ℕ) (after after′ : List ℕ)
+    → Sited tasks slots reply n after → Sited tasks slots reply n′ after′ → (n ≡ n′) × (after ≡ after′)
 
 -- judge::supply, judge::drop_test, judge::count: the number and the value beside it.
 abbrev pub PointSettled : {A : Type 0} → (List ℕ → List ℕ → ℕ → A) → Type 0

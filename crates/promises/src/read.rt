@@ -1,12 +1,13 @@
 // The C calls' answers taken apart as their callers do it: what is read is what the rules say.
 ghost use mathlib.Core.Path.{_≡_};
-ghost use Prim.Native.Nat.{_/_, _%_, _≤_};
+ghost use Prim.Native.Nat.{_*_, _/_, _%_, _≤_, _<_};
 ghost use lib.ListN.{length};
 ghost use Rattle.records.specs.Records.{replyBytes};
 ghost use Rattle.records.specs.Refusals.{pointRefusal};
+ghost use Rattle.records.specs.Lookup.{whole};
 ghost use Rattle.judge.specs.Points.{countedAt};
 ghost use Rattle.grants.specs.Grants.{GrantCall};
-ghost use Rattle.promises.specs.Answers.{Told};
+ghost use Rattle.promises.specs.Answers.{Told, SiteTold};
 
 // The number that judging gives, and the fields of the answer record.
 pub struct Answer {
@@ -45,6 +46,23 @@ pub fn judge(task: &[u8], slots: &[u8], reply: &mut [u8]) -> Answer
         firm: octets::two(reply, 6),
         drops: octets::four(reply, 8),
         offset: octets::four(reply, 12),
+    }
+}
+
+// The number that a whole site gets, and the fields of record i's answer, from its place in the reply.
+pub fn site(tasks: &[u8], slots: &[u8], reply: &mut [u8], i: usize) -> Answer
+    requires { ⌜ (i < whole (now tasks)) × (replyBytes * whole (now tasks) ≤ length (now reply)) ⌝ }
+    ensures { λ r. ⌜ SiteTold (now (tasks .entry)) (now (slots .entry)) (now (reply .entry)) i r ⌝ }
+{
+    let number = fiddlequill::fiddlequill_site(tasks, slots, reply);
+    let at = records::answer::Answer::BYTES * i;
+    Answer {
+        number,
+        id: octets::four(reply, at),
+        refusal: octets::two(reply, at + 4),
+        firm: octets::two(reply, at + 6),
+        drops: octets::four(reply, at + 8),
+        offset: octets::four(reply, at + 12),
     }
 }
 

@@ -51,6 +51,16 @@ pub fn judge(task: &[u8], slots: &[u8], one: &mut [u8], other: &mut [u8]) -> Num
     }
 }
 
+pub fn site(tasks: &[u8], slots: &[u8], one: &mut [u8], other: &mut [u8]) -> Numbers
+    requires { ⌜ now one ≡ now other ⌝ }
+    ensures { λ r. ⌜ (r .one ≡ r .other) × (now (one .exit) ≡ now (other .exit)) ⌝ }
+{
+    Numbers {
+        one: site::site(tasks, slots, one),
+        other: site::site(tasks, slots, other),
+    }
+}
+
 pub fn supply(task: &[u8], slots: &[u8], offset: u64) -> Supplies
     ensures { λ r. ⌜ (r .one .number ≡ r .other .number) × (r .one .supply ≡ r .other .supply) ⌝ }
 {
@@ -115,6 +125,16 @@ pub fn fiddlequill_judge(task: &[u8], slots: &[u8], one: &mut [u8], other: &mut 
     Numbers {
         one: fiddlequill::fiddlequill_judge(task, slots, one),
         other: fiddlequill::fiddlequill_judge(task, slots, other),
+    }
+}
+
+pub fn fiddlequill_site(tasks: &[u8], slots: &[u8], one: &mut [u8], other: &mut [u8]) -> Numbers
+    requires { ⌜ now one ≡ now other ⌝ }
+    ensures { λ r. ⌜ (r .one ≡ r .other) × (now (one .exit) ≡ now (other .exit)) ⌝ }
+{
+    Numbers {
+        one: fiddlequill::fiddlequill_site(tasks, slots, one),
+        other: fiddlequill::fiddlequill_site(tasks, slots, other),
     }
 }
 

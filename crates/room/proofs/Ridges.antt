@@ -57,16 +57,16 @@ topped-none l w h k none z laid =
     missed a s = laid .lay .alike 0 a (omega arith) (rw (edge-past l w 1 (omega arith)) s)
 
 pub topped-drawn :
-    (l : List ℕ) (w : ℕ) (m : List ℕ) (h k c a : ℕ) → length m ≡ w → ((z : Subset) → Laid l w z → Drawn m z) → Top m h k c a
-    → Topped l w h k c a
+    (l : List ℕ) (w : ℕ) (m : List ℕ) (h k : ℕ) → length m ≡ w → ((z : Subset) → Laid l w z → Drawn m z) → (c a : ℕ)
+    → Top m h k c a → Topped l (length m) h k c a
 unfolding Topped
-topped-drawn l w m h k c a long drawn top z laid =
-    rw long at (largest-same (λ i _. met-drawn m z (drawn z laid) (omega (arith, laid .wheel .some)) h k i) (record {
+topped-drawn l w m h k long drawn c a top z laid =
+    largest-same (λ i _. met-drawn m z (drawn z (rw long at laid)) (laid .wheel .some) h k i) (record {
       bound = top .bound;
       inside = top .inside;
       hit = top .hit;
       least = top .least;
-    }))
+    })
 
 pub highest :
     (l : List ℕ) (w : ℕ) (t : Task) (n : ℕ) (late late′ : List ℕ) (x c a : ℕ) → LateIn l w t 1 late n late′ → x ≡ w
@@ -75,6 +75,15 @@ unfolding Topped Highest count
 highest l w t n late late′ x c a lates long top u laid =
     largest-same (λ i _. from-side w u (laid .wheel) (asked t) 1 (t .k) i)
     (rw long at (top (λ a. dropped 2 u (asked t) (2 * a + 1)) (rw long (lates .laid u laid))))
+
+-- The largest count along the late runs is that half a tick after a tick, and what the work was lent stays lent.
+pub ridged :
+    (l : List ℕ) (w : ℕ) (t : Task) (n : ℕ) (late late′ map map′ : List ℕ) (c a : ℕ) → Lent l w t late map → LateIn l w t 1 late n late′
+    → length map′ ≡ length map → Topped (take n late′) (length map′) (t .h) (t .k) c a → Highest l w t c a × Lent l w t late′ map′
+ridged l w t n late late′ map map′ c a lent lates kept top = (
+  highest l w t n late late′ (length map′) c a lates (kept ∙ lent .long) top,
+  record { runs = lent .runs; within = lent .within; room = omega (arith, lent .room, lates .long); long = kept ∙ lent .long },
+)
 
 pub highest-inside :
     (l : List ℕ) (w : ℕ) (t : Task) (late map : List ℕ) (c a : ℕ) → Lent l w t late map → Highest l w t c a → a < mostTicks

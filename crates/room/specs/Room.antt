@@ -2,9 +2,12 @@
 --
 --     mostEdges                 the most edges of the runs that the room takes: two a slot
 --     Lent l w t late map       what the work is lent: runs l of a wheel of w ticks, a task, room for its late runs, a map of the wheel
+--     Doubles n a b c d         arrays to double in on n ticks: a and b of bytes, c and d of 16 bits
+--     Lends n l m a b c d       all that a caller lends for wheels of up to n ticks: l for late runs, m for a map, the others to double in
 --     Largest f w c a           c is the largest of the values of f below w, and a is the first place that has it
 --     met w z h k p             how many of k strips from tick p on, in steps of h, meet a tick of the set z
 --     Topped l w h k c a        the largest such number for every set that the runs l lay out, and the first tick that has it
+--     Outlined l m h k o        that number is known, or the map m is drawn, and the largest count along it is that number
 --     Highest l w t c a         the largest count half a tick after a tick, for every set of ticks that the runs lay out, and the first such tick
 --     Found l w t r             r is the worst count and offset (rule 6) of every such set
 --     Judges l w t c            rule 7's test on c says whether such a set is firm
@@ -25,13 +28,15 @@ use Rattle.rules.specs.Worst.{Worst, Firm, firmTest}
 use Rattle.limits.specs.Limits.{mostSlots, asked, Within}
 use Rattle.limits.specs.declared.Task.{Task}
 use Rattle.runs.specs.Runs.{Laid, Runs}
-use Rattle.maps.specs.Maps.{strips}
+use Rattle.maps.specs.Maps.{Sized, Top, strips}
 use Rattle.late.specs.Late.{lateRoom}
 use Rattle.room.specs.declared.Ask.{Ask}
 use Rattle.room.specs.declared.Ask.the-variants as ask
 use Rattle.room.specs.declared.Peak.{Peak}
 use Rattle.room.specs.declared.Glance.{Glance}
 use Rattle.room.specs.declared.Glance.the-variants as glance
+use Rattle.room.specs.declared.Outline.{Outline}
+use Rattle.room.specs.declared.Outline.the-variants as outline
 
 abbrev pub mostEdges : ℕ
 mostEdges = 2 * mostSlots
@@ -41,6 +46,17 @@ pub record Lent (l : List ℕ) (w : ℕ) (t : Task) (late map : List ℕ) : Type
   pub within : Within t
   pub room : min (lateRoom (length l)) w ≤ length late
   pub long : length map ≡ w
+
+pub record Doubles (n : ℕ) (a b c d : List ℕ) : Type 0 where
+  pub low : n ≤ length a
+  pub spare : n ≤ length b
+  pub here : n ≤ length c
+  pub there : n ≤ length d
+
+pub record Lends (n : ℕ) (l m a b c d : List ℕ) : Type 0 where
+  pub late : lateRoom mostEdges ≤ length l
+  pub map : n ≤ length m
+  pub doubling : Doubles n a b c d
 
 pub record Largest (f : ℕ → ℕ) (w c a : ℕ) : Type 0 where
   pub bound : (i : ℕ) → i < w → f i ≤ c
@@ -53,6 +69,10 @@ met w z h k p = strips (λ a. bit (z a)) w h k p
 
 unfoldable pub Topped : List ℕ → ℕ → ℕ → ℕ → ℕ → ℕ → Type 0
 Topped l w h k c a = (z : Subset) → Laid l w z → Largest (met w z h k) w c a
+
+abbrev pub Outlined : List ℕ → List ℕ → ℕ → ℕ → Outline → Type 0
+Outlined l m h k (outline.Known c) = Topped l (length m) h k (c .drops) (c .at)
+Outlined l m h k outline.Drawn = Sized m h k × ((c a : ℕ) → Top m h k c a → Topped l (length m) h k c a)
 
 unfoldable pub Highest : List ℕ → ℕ → Task → ℕ → ℕ → Type 0
 Highest l w t c a = (u : Subset) → Laid l w u → Largest (λ i. count 2 u (asked t) (2 * i + 1)) w c a

@@ -4,6 +4,7 @@ ghost use lib.ListN.{length};
 ghost use Rattle.limits.specs.Limits.{mostTicks};
 ghost use Rattle.maps.specs.Maps.{Sized, Top};
 ghost use Rattle.engine.specs.Turn.{byteEnd};
+ghost use Rattle.room.specs.Room.{Doubles};
 use limits::Wheel;
 use maps::Crest;
 
@@ -125,4 +126,23 @@ pub fn doubled(map: &[u8], h: usize, k: usize) -> Crest
         return wider(map, h, k);
     }
     wider(map, h, k)
+}
+
+// Doubling in lent arrays, as long as the map or longer.
+pub fn lent(
+    map: &[u8],
+    low: &mut [u8],
+    spare: &mut [u8],
+    here: &mut [u16],
+    there: &mut [u16],
+    h: usize,
+    k: usize,
+) -> Crest
+    requires { ⌜ Sized (now map) h k × (0 < k) × Doubles (length (now map)) (now low) (now spare) (now here) (now there) ⌝ }
+    ensures { λ r. ⌜ Top (now (map .entry)) h k (r .drops) (r .at) ⌝ }
+{
+    if k < engine::BYTE_END {
+        return engine::by_bytes(map, low, spare, h, k);
+    }
+    engine::by_words(map, low, spare, here, there, h, k)
 }

@@ -8,9 +8,10 @@ ghost use Prim.Native.Nat.{_*_, _≤_, _<_};
 ghost use lib.ListN.{length};
 ghost use Rattle.limits.specs.Limits.{mostTicks, Within};
 ghost use Rattle.runs.specs.Runs.{Runs};
-ghost use Rattle.room.specs.Room.{mostEdges, Found, Judges, Glanced, Tallied, Asked, Told};
+ghost use Rattle.room.specs.Room.{mostEdges, Lends, Found, Judges, Glanced, Tallied, Asked, Told};
 use limits::Task;
 use limits::Wheel;
+use maps::Crest;
 
 // What is asked of the runs of a wheel and a task: the worst count and offset, a number to tell firm by, or the count from a half tick.
 pub enum Ask {
@@ -31,10 +32,17 @@ enum Glance {
     Unknown,
 }
 
+// What is known of the largest count before any doubling: the count, or that a map of drops is drawn.
+enum Outline {
+    Known(Crest),
+    Drawn,
+}
+
 // The most edges that runs may have here: two a slot.
 pub const MOST_EDGES: usize = 2 * Wheel::MOST_SLOTS;
 
-const LATE_EDGES: usize = 2 * MOST_EDGES + 4;
+// The most edges that their late runs may have.
+pub const LATE_EDGES: usize = 2 * MOST_EDGES + 4;
 
 fn on_256(runs: &[u16], w: usize, task: Task, ask: Ask) -> Peak
     requires { ⌜ Runs (now runs) w × Within task × (length (now runs) ≤ mostEdges) × (w ≤ 256) × Asked w ask ⌝ }
@@ -94,6 +102,28 @@ pub fn worst(runs: &[u16], w: usize, task: Task) -> Peak
     ensures { λ r. ⌜ Found (now (runs .entry)) w task r ⌝ }
 {
     told(runs, w, task, Ask::Worst)
+}
+
+// The same in arrays that the caller lends, in any state: for many tasks one after another. `low` and `spare` hold counts in bytes, `here` and
+// `there` in 16 bits.
+pub fn worst_in(
+    runs: &[u16],
+    w: usize,
+    task: Task,
+    late: &mut [u16],
+    map: &mut [u8],
+    low: &mut [u8],
+    spare: &mut [u8],
+    here: &mut [u16],
+    there: &mut [u16],
+) -> Peak
+    requires { ⌜ Runs (now runs) w × Within task × (length (now runs) ≤ mostEdges) ⌝ }
+    requires { ⌜ Lends w (now late) (now map) (now low) (now spare) (now here) (now there) ⌝ }
+    ensures { λ r. ⌜ Found (now (runs .entry)) w task r ⌝ }
+{
+    let part = &mut map[..w];
+    let c = work::ridge_in(runs, w, task, late, part, low, spare, here, there);
+    work::settle(runs, w, task, c, late, part)
 }
 
 // Needs no array as long as the wheel.

@@ -6,10 +6,10 @@ ghost use lib.ListN.{length};
 ghost use Rattle.limits.specs.Limits.{mostTicks, mostPeriod, mostStrips, Within};
 ghost use Rattle.runs.specs.Runs.{edge, Runs};
 ghost use Rattle.late.specs.Late.{lateRoom};
-ghost use Rattle.maps.specs.Maps.{Mapped, Sized, Top};
-ghost use Rattle.room.specs.Room.{Lent, Topped, Highest, Found, Judges, Glanced, Tallied, Asked, Told};
+ghost use Rattle.room.specs.Room.{Lent, Doubles, Outlined, Highest, Found, Judges, Glanced, Tallied, Asked, Told};
 use crate::Ask;
 use crate::Glance;
+use crate::Outline;
 use crate::Peak;
 use crate::doubled;
 use limits::Task;
@@ -33,37 +33,57 @@ fn slides(edges: usize, k: usize, w: usize) -> bool
     7 * k * edges <= w + 400
 }
 
-fn crest(late: &[u16], map: &[u8], h: usize, k: usize) -> Crest
-    requires { ⌜ Mapped (now late) (now map) × Sized (now map) h k × (0 < k) × (length (now late) ≤ length (now map)) ⌝ }
-    ensures { λ r. ⌜ Top (now (map .entry)) h k (r .drops) (r .at) ⌝ }
-{
-    if slides(late.len(), k, map.len()) {
-        return slide::slide(late, map, h, k);
-    }
-    doubled::doubled(map, h, k)
-}
-
-// The largest count of k strips along late runs. Where there are none nothing is drawn.
-fn top(late: &[u16], map: &mut [u8], h: usize, k: usize) -> Crest
+// The largest count of k strips along late runs, or a map of them to double on. Where there are none nothing is drawn.
+fn outline(late: &[u16], map: &mut [u8], h: usize, k: usize) -> Outline
     requires { ⌜ Runs (now late) (length (now map)) × (length (now late) ≤ length (now map)) ⌝ }
     requires { ⌜ (h ≤ mostPeriod) × (0 < k) × (k ≤ mostStrips) ⌝ }
-    ensures { λ r. ⌜ Topped (now (late .entry)) (length (now (map .entry))) h k (r .drops) (r .at) ⌝ }
+    ensures { λ r. ⌜ Outlined (now (late .entry)) (now (map .exit)) h k r ⌝ }
 {
     if late.len() == 0 {
-        return Crest { drops: 0, at: 0 };
+        return Outline::Known(Crest { drops: 0, at: 0 });
     }
     maps::draw(late, map);
-    crest(late, map, h, k)
+    if slides(late.len(), k, map.len()) {
+        return Outline::Known(slide::slide(late, map, h, k));
+    }
+    Outline::Drawn
 }
 
-// The largest count half a tick after a tick.
+// The largest count half a tick after a tick, in the room's own arrays where it takes doubling.
 fn ridge(runs: &[u16], w: usize, task: Task, late: &mut [u16], map: &mut [u8]) -> Crest
     requires { ⌜ Lent (now runs) w task (now late) (now map) ⌝ }
     ensures { λ r. ⌜ Highest (now (runs .entry)) w task (r .drops) (r .at) ⌝ }
     ensures { λ _. ⌜ Lent (now (runs .entry)) w task (now (late .exit)) (now (map .exit)) ⌝ }
 {
     let n = late::late(runs, w, task, 1, late);
-    top(&late[..n], map, task.h, task.k)
+    match outline(&late[..n], map, task.h, task.k) {
+        Outline::Known(c) => c,
+        Outline::Drawn => doubled::doubled(map, task.h, task.k),
+    }
+}
+
+// The same in arrays that are lent for doubling, too.
+pub fn ridge_in(
+    runs: &[u16],
+    w: usize,
+    task: Task,
+    late: &mut [u16],
+    map: &mut [u8],
+    low: &mut [u8],
+    spare: &mut [u8],
+    here: &mut [u16],
+    there: &mut [u16],
+) -> Crest
+    requires { ⌜ Lent (now runs) w task (now late) (now map) ⌝ }
+    requires { ⌜ Doubles w (now low) (now spare) (now here) (now there) ⌝ }
+    ensures { λ r. ⌜ Highest (now (runs .entry)) w task (r .drops) (r .at) ⌝ }
+    ensures { λ _. ⌜ Lent (now (runs .entry)) w task (now (late .exit)) (now (map .exit)) ⌝ }
+{
+    let n = late::late(runs, w, task, 1, late);
+    match outline(&late[..n], map, task.h, task.k) {
+        Outline::Known(c) => c,
+        Outline::Drawn => doubled::lent(map, low, spare, here, there, task.h, task.k),
+    }
 }
 
 // Half a tick after a tick, in half ticks.
@@ -75,7 +95,14 @@ fn after(at: usize) -> u32
 }
 
 // From the largest count half a tick after a tick to the worst. Only at half tick 1 is there a half tick before it that may be as bad: 0.
-fn settle(runs: &[u16], w: usize, task: Task, c: Crest, late: &mut [u16], map: &mut [u8]) -> Peak
+pub fn settle(
+    runs: &[u16],
+    w: usize,
+    task: Task,
+    c: Crest,
+    late: &mut [u16],
+    map: &mut [u8],
+) -> Peak
     requires { ⌜ Lent (now runs) w task (now late) (now map) × Highest (now runs) w task (c .drops) (c .at) ⌝ }
     ensures { λ r. ⌜ Found (now (runs .entry)) w task r ⌝ }
 {

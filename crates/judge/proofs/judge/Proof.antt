@@ -19,31 +19,38 @@ read-requires c κs = sizes-long _ _ (sym (c .before .before .sizes .ensures) �
 
 worst-requires : tie.Need-worst-requires
 worst-requires c κs =
-    let accepted = sym (c .before .before .before .before .check .ensures) ∙ c .before .before .job .given .1 in
-    (good-accepted _ _ _ accepted, search needs)
+    let arm = c .before .before in
+    (good-accepted _ _ _ (sym (arm .before .before .check .ensures) ∙ arm .job .given .1), search needs)
 
-firm-requires : tie.Need-firm-requires
-firm-requires c κs =
-    let accepted = sym (c .before .before .before .before .before .before .check .ensures) ∙ c .before .before .before .before .job .given .1 in
-    good-accepted _ _ _ accepted .within .painted
+answer-requires : tie.Need-answer-requires
+answer-requires c κs =
+    let arm = c .before .before .before .before .before in
+    let check = arm .before .before in
+    (check .before .before .if2 .left, good-accepted _ _ _ (sym (check .check .ensures) ∙ arm .job .given .1) .within .painted)
 
 returns-3 : tie.Need-returns-3
 returns-3 c =
-    let good = sym (c .before .before .before .before .before .before .before .before .before .before .before .sizes .ensures) ∙ c .before .before .before .before .before .before .before .before .before .before .if1 .left in
-    let refused = sym (c .before .before .before .before .before .before .before .check .ensures) ∙ c .before .before .before .before .before .bad .given .1 in
-    reply-refused _ _ _ good (c .before .before .before .before .before .before .before .before .before .if2 .left) _ (c .before .before .before .before .before .before .before .before .read .ensures) _ _ refused (c .before .before .write .ensures)
+    let refused = c .before .before in
+    let arm = refused .before .before .before in
+    let check = arm .before .before in
+    let read = check .before in
+    let good = sym (read .before .before .before .sizes .ensures) ∙ read .before .before .if1 .left in
+    rw (refused .refuse .ensures .0) (reply-refused _ _ _ good (read .before .if2 .left) _ (read .read .ensures) _ _
+    (sym (check .check .ensures) ∙ arm .bad .given .1) (refused .refuse .ensures .1))
 
 returns-4 : tie.Need-returns-4
 returns-4 c =
-    let good = sym (c .before .before .before .before .before .before .before .before .before .before .before .before .before .before .before .sizes .ensures) ∙ c .before .before .before .before .before .before .before .before .before .before .before .before .before .before .if1 .left in
-    let accepted = sym (c .before .before .before .before .before .before .before .before .before .before .before .check .ensures) ∙ c .before .before .before .before .before .before .before .before .before .job .given .1 in
-    let worst = c .before .before .before .before .before .before .worst .ensures in
-    reply-answered _ _ _ good (c .before .before .before .before .before .before .before .before .before .before .before .before .before .if2 .left) _ (c .before .before .before .before .before .before .before .before .before .before .before .before .read .ensures) _ _ _ _ _ accepted worst (c .before .before .before .before .firm .ensures)
-    (c .before .before .write2 .ensures)
+    let found = c .before .before .before .before .before in
+    let arm = found .before .before .before in
+    let check = arm .before .before in
+    let read = check .before in
+    let good = sym (read .before .before .before .sizes .ensures) ∙ read .before .before .if1 .left in
+    reply-answered _ _ _ good (read .before .if2 .left) _ (read .read .ensures) _ (sym (check .check .ensures) ∙ arm .job .given .1) _ _ _
+    (found .worst .ensures) (c .before .before .answer .ensures)
 
 pub judge-spec : {M : Type 1} → statement M
 judge-spec =
     tie.close
     (tie.spec (λ c κs. search needs) returns returns-2 read-requires (λ c κs. search needs) (λ c. search needs)
-    (λ c κs. search needs) (λ c. search needs) (λ c. search needs) worst-requires firm-requires (λ c κs. search needs)
-    (λ c. search needs) returns-3 (λ c. search needs) returns-4)
+    (λ c κs. search needs) (λ c. search needs) (λ c. search needs) worst-requires answer-requires (λ c. search needs) returns-3
+    (λ c. search needs) returns-4)
