@@ -1,5 +1,6 @@
 // Every public function called twice on equal inputs: the results are equal, and so is every lent buffer.
 ghost use mathlib.Core.Path.{_≡_};
+ghost use Rattle.records.specs.Lookup.{lookedUp};
 use grants::Granted;
 use judge::Counted;
 use judge::Supplied;
@@ -112,10 +113,14 @@ fn alike(one: &[u8], other: &[u8])
     requires { ⌜ now one ≡ now other ⌝ }
 {}
 
-pub fn lookup<'a>(site: &'a [u8], factory: &'a [u8], id: u32) {
+// The other part stands for both: `alike` has seen that they are the same.
+pub fn lookup<'a>(site: &'a [u8], factory: &'a [u8], id: u32) -> &'a [u8]
+    ensures { λ r. ⌜ now r ≡ lookedUp (now (site .entry)) (now (factory .entry)) id ⌝ }
+{
     let one = records::lookup::lookup(site, factory, id);
     let other = records::lookup::lookup(site, factory, id);
     alike(one, other);
+    other
 }
 
 pub fn fiddlequill_judge(task: &[u8], slots: &[u8], one: &mut [u8], other: &mut [u8]) -> Numbers
