@@ -87,7 +87,7 @@ build/include/fiddlequill.h: $(HEADER)
 
 build/fiddlequill.pc: Makefile
 	@mkdir -p build
-	printf 'prefix=%s\nlibdir=$${prefix}/lib\nincludedir=$${prefix}/include\n\nName: fiddlequill\nDescription: proved judge for lobby displays\nVersion: 1.1.0\nLibs: -L$${libdir} -lfiddlequill\nCflags: -I$${includedir}\n' '$(PREFIX)' >$@
+	printf 'prefix=%s\nlibdir=$${prefix}/lib\nincludedir=$${prefix}/include\n\nName: fiddlequill\nDescription: proved judge for lobby displays\nVersion: 2.0.0\nLibs: -L$${libdir} -lfiddlequill\nCflags: -I$${includedir}\n' '$(PREFIX)' >$@
 
 install: lib
 	@rm -f build/fiddlequill.pc
@@ -126,7 +126,7 @@ host-test: host build/sheet build/questions
 	host/sheet-test.sh build/sheet build/records build/halfway build/site
 	build/desk build/site >build/site/desk.out
 	diff examples/site/desk.expected build/site/desk.out
-	examples/desk-test.sh build/desk build/site
+	examples/desk-test.sh build/desk build/records build/site
 	build/stack
 	rm -rf build/asked-room && mkdir build/asked-room
 	build/asked '$(CURDIR)/build/questions' build/asked-room
@@ -141,6 +141,7 @@ sanitize: build/questions build/sanitized/second build/sanitized/asked build/san
 	build/sanitized/records make build/sanitized/site
 	build/sanitized/desk build/sanitized/site >build/sanitized/site/desk.out
 	diff examples/site/desk.expected build/sanitized/site/desk.out
+	examples/desk-test.sh build/sanitized/desk build/sanitized/records build/sanitized/site
 	rm -rf build/sanitized/asked-room && mkdir build/sanitized/asked-room
 	build/sanitized/asked '$(CURDIR)/build/questions' build/sanitized/asked-room
 	build/sanitized/second 20000
@@ -168,7 +169,7 @@ build/stack: build/host/stack.o $(ARCHIVE)
 build/halfway: build/host/halfway.o build/host/files.o
 	$(call link,)
 
-build/records: build/host/records.o build/host/files.o
+build/records: build/host/records.o build/host/files.o $(ARCHIVE)
 	$(call link,)
 
 build/desk: $(DESK:%=build/host/%.o) $(ARCHIVE)
@@ -183,7 +184,7 @@ build/sanitized/second: $(SECOND:%=build/sanitized/%.o) $(ARCHIVE)
 build/sanitized/asked: $(ASKED:%=build/sanitized/%.o)
 	$(call link,$(SANITIZE))
 
-build/sanitized/records: build/sanitized/records.o build/sanitized/files.o
+build/sanitized/records: build/sanitized/records.o build/sanitized/files.o $(ARCHIVE)
 	$(call link,$(SANITIZE))
 
 build/sanitized/desk: $(DESK:%=build/sanitized/%.o) $(ARCHIVE)

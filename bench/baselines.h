@@ -13,7 +13,7 @@ struct plan {
     uint32_t start[FIDDLEQUILL_SLOTS_MAX], end[FIDDLEQUILL_SLOTS_MAX];
 };
 
-/* Refusals 1, 3 to 10; fills the plan where it gives 0. */
+/* Refusals 1, 3, 4, 14 to 17 and 6 to 10, in this order; fills the plan where it gives 0. */
 uint32_t plan_read(struct plan *plan, const uint8_t *task, size_t task_len, const uint8_t *slots, size_t slots_len);
 void plan_answer(const struct plan *plan, uint32_t number, uint32_t worst, uint32_t offset, uint8_t *reply);
 

@@ -10,8 +10,12 @@ static uint32_t read_slots(struct plan *plan, const uint8_t *slots, uint32_t fir
     for (uint32_t i = 0; i < plan->slots; i++) {
         const uint8_t *slot = slots + (size_t)(first + i) * FIDDLEQUILL_SLOT_BYTES;
         uint32_t start = get_number(slot, 4), end = get_number(slot + 4, 4);
-        if (start >= end || end > plan->w || start < previous_end)
-            return FIDDLEQUILL_BAD_SLOTS;
+        if (start >= end)
+            return FIDDLEQUILL_EMPTY_SLOT;
+        if (end > plan->w)
+            return FIDDLEQUILL_SLOT_PAST_WHEEL;
+        if (start < previous_end)
+            return FIDDLEQUILL_EARLY_SLOT;
         plan->start[i] = start;
         plan->end[i] = previous_end = end;
     }
@@ -49,7 +53,7 @@ uint32_t plan_read(struct plan *plan, const uint8_t *task, size_t task_len, cons
     if (plan->w == 0 || plan->w > FIDDLEQUILL_WHEEL_MAX)
         return FIDDLEQUILL_BAD_WHEEL;
     if (plan->slots > FIDDLEQUILL_SLOTS_MAX)
-        return FIDDLEQUILL_BAD_SLOTS;
+        return FIDDLEQUILL_MANY_SLOTS;
     uint32_t number = read_slots(plan, slots, first);
     return number != FIDDLEQUILL_OK ? number : check_limits(plan);
 }

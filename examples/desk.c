@@ -5,7 +5,9 @@
  *   desk FOLDER
  *
  * FOLDER holds tasks.bin and slots.bin (`records make FOLDER` makes them). For
- * a task that isn't firm it asks whether free, equal slots would do.
+ * a task that isn't firm it asks whether free, equal slots would do; for one
+ * that is refused because of its table it says what stands in which record of
+ * which file. Records are counted from 0, and so are the slots of a task.
  * The exit status is 0 when every task got an answer, refused ones included.
  */
 #include "bytes.h"
@@ -24,7 +26,7 @@ struct site {
 
 /* The fields of a task record that the desk speaks of. */
 struct task {
-    uint32_t id, w, e, D, h, m, k;
+    uint32_t id, w, e, D, h, m, k, first, count;
 };
 
 struct answer {
@@ -41,6 +43,8 @@ static struct task task_of(const uint8_t *bytes)
         .h = get_number(bytes + 16, 4),
         .m = get_number(bytes + 20, 4),
         .k = get_number(bytes + 24, 4),
+        .first = get_number(bytes + 28, 2),
+        .count = get_number(bytes + 30, 2),
     };
 }
 
@@ -100,6 +104,64 @@ static void offer_grant(const struct task *task)
         printf("%s\n", fiddlequill_meaning(fiddlequill_number(packed)));
 }
 
+static const uint8_t *slot_record(const struct site *site, uint32_t i)
+{
+    return site->slots.bytes + (size_t)i * FIDDLEQUILL_SLOT_BYTES;
+}
+
+/* A bad slot's record, and what it clashes with where that isn't in it. */
+static void point_at_slot(const struct site *site, const struct task *task, uint32_t number, uint32_t place)
+{
+    uint32_t i = task->first + place;
+    const uint8_t *slot = slot_record(site, i);
+    printf("  %s, record %" PRIu32 " (slot %" PRIu32 " of the task): ", site->slots.path, i, place);
+    printf("from %" PRIu32 " to %" PRIu32, get_number(slot, 4), get_number(slot + 4, 4));
+    if (number == FIDDLEQUILL_SLOT_PAST_WHEEL)
+        printf(", while w is %" PRIu32, task->w);
+    if (number == FIDDLEQUILL_EARLY_SLOT) /* so it isn't the task's first */
+        printf(", while slot %" PRIu32 " lasts to %" PRIu32, place - 1, get_number(slot_record(site, i - 1) + 4, 4));
+    printf("\n");
+}
+
+/* A task record whose fields make no table, before any slot is looked at. */
+static void point_at_task(const struct site *site, const uint8_t *record, uint32_t number)
+{
+    struct task task = task_of(record);
+    printf("  %s, record %zu: ", site->tasks.path, (size_t)(record - site->tasks.bytes) / FIDDLEQUILL_TASK_BYTES);
+    if (number == FIDDLEQUILL_BAD_WHEEL)
+        printf("w %" PRIu32 "\n", task.w);
+    else if (number == FIDDLEQUILL_MANY_SLOTS)
+        printf("count %" PRIu32 "\n", task.count);
+    else
+        printf("first %" PRIu32 " and count %" PRIu32 ", while %s has %zu records\n", task.first, task.count,
+               site->slots.path, site->slots.len / FIDDLEQUILL_SLOT_BYTES);
+}
+
+/* What the table alone is refused with: 6 to 10 are about the task's other numbers. */
+static uint32_t number_of_table(uint32_t number)
+{
+    return number >= FIDDLEQUILL_BAD_NEED && number <= FIDDLEQUILL_BAD_PAINTED ? FIDDLEQUILL_OK : number;
+}
+
+/* Asking which slot is bad must give the number that judging gave. */
+static int tell_table(const struct site *site, const uint8_t *record, const struct answer *answer)
+{
+    struct task task = task_of(record);
+    uint64_t packed = fiddlequill_which_slot(record, FIDDLEQUILL_TASK_BYTES, site->slots.bytes, site->slots.len);
+    uint32_t number = fiddlequill_number(packed);
+    if (number != number_of_table(answer->number)) {
+        fprintf(stderr, "%s: task %" PRIu32 ": asking which slot is bad gives refusal %" PRIu32, site->tasks.path,
+                task.id, number);
+        fprintf(stderr, ", judging gave %" PRIu32 "\n", answer->number);
+        return -1;
+    }
+    if (fiddlequill_about_slot(number))
+        point_at_slot(site, &task, number, fiddlequill_value(packed));
+    else if (number != FIDDLEQUILL_OK)
+        point_at_task(site, record, number);
+    return 0;
+}
+
 static int tell_one(const struct site *site, const uint8_t *record, const uint8_t *reply)
 {
     struct task task = task_of(record);
@@ -107,7 +169,7 @@ static int tell_one(const struct site *site, const uint8_t *record, const uint8_
     if (answer.number != FIDDLEQUILL_OK) {
         printf("task %" PRIu32 ": refused with %" PRIu32 ", %s\n", task.id, answer.number,
                fiddlequill_meaning(answer.number));
-        return 0;
+        return tell_table(site, record, &answer);
     }
     print_verdict(&task, &answer);
     if (recount(site, record, &answer) != 0)

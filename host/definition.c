@@ -43,17 +43,40 @@ uint32_t refusal_of_sizes(size_t task_len, size_t slots_len)
     return task_len != TASK_BYTES || slots_len % SLOT_BYTES != 0 ? 1 : 0;
 }
 
-static bool slots_fit(const struct task *task, const uint8_t *slots)
+/* The record before `first` is nobody's previous slot. */
+uint32_t refusal_of_slot(const struct task *task, const uint8_t *slots, uint32_t place)
 {
-    uint32_t previous_end = 0; /* the record before `first` is nobody's previous slot */
-    for (uint32_t i = 0; i < task->count; i++) {
-        const uint8_t *slot = slots + (size_t)(task->first + i) * SLOT_BYTES;
-        uint32_t start = get_number(slot, 4), end = get_number(slot + 4, 4);
-        if (start >= end || end > task->w || start < previous_end)
-            return false;
-        previous_end = end;
+    const uint8_t *slot = slots + (size_t)(task->first + place) * SLOT_BYTES;
+    uint32_t start = get_number(slot, 4), end = get_number(slot + 4, 4);
+    if (start >= end)
+        return 15;
+    if (end > task->w)
+        return 16;
+    if (place > 0 && start < get_number(slot - SLOT_BYTES + 4, 4))
+        return 17;
+    return 0;
+}
+
+/* A refusal and the place of the slot it is about, counted from the task's first; 0 where it is about none. */
+struct trouble {
+    uint32_t number, place;
+};
+
+/* Refusals 3, 4 and 14 to 17; the first bad slot decides. */
+static struct trouble trouble_of_table(const struct task *task, const uint8_t *slots, size_t slots_len)
+{
+    if (task->first + task->count > slots_len / SLOT_BYTES)
+        return (struct trouble){3, 0};
+    if (task->w == 0 || task->w > WHEEL_MAX)
+        return (struct trouble){4, 0};
+    if (task->count > SLOTS_MAX)
+        return (struct trouble){14, 0};
+    for (uint32_t place = 0; place < task->count; place++) {
+        uint32_t number = refusal_of_slot(task, slots, place);
+        if (number != 0)
+            return (struct trouble){number, place};
     }
-    return true;
+    return (struct trouble){0, 0};
 }
 
 uint32_t refusal_of_strips(const struct strips *s)
@@ -75,13 +98,8 @@ uint32_t refusal_of_task(const uint8_t *bytes, const uint8_t *slots, size_t slot
 {
     struct task task = task_of_bytes(bytes);
     struct strips strips = strips_of_task(&task);
-    if (task.first + task.count > slots_len / SLOT_BYTES)
-        return 3;
-    if (task.w == 0 || task.w > WHEEL_MAX)
-        return 4;
-    if (task.count > SLOTS_MAX || !slots_fit(&task, slots))
-        return 5;
-    return refusal_of_strips(&strips);
+    uint32_t number = trouble_of_table(&task, slots, slots_len).number;
+    return number != 0 ? number : refusal_of_strips(&strips);
 }
 
 uint32_t refusal_of_marks(const uint8_t *marks, uint64_t n, uint64_t v)
@@ -247,7 +265,17 @@ static uint64_t packed(uint32_t number, uint64_t value)
     return (uint64_t)number * 4294967296u + value;
 }
 
-/* Refusals 1 and 3 to 11, of a question at a half tick. */
+uint64_t definition_which_slot(const uint8_t *task_bytes, size_t task_len, const uint8_t *slots, size_t slots_len)
+{
+    uint32_t number = refusal_of_sizes(task_len, slots_len);
+    if (number != 0)
+        return packed(number, 0);
+    struct task task = task_of_bytes(task_bytes);
+    struct trouble trouble = trouble_of_table(&task, slots, slots_len);
+    return packed(trouble.number, trouble.place);
+}
+
+/* All refusals of a task but the reply's, then 11: those of a question at a half tick. */
 static uint32_t refusal_at(const uint8_t *task, size_t task_len, const uint8_t *slots, size_t slots_len,
                            uint64_t offset)
 {

@@ -47,9 +47,11 @@ struct task task_of_bytes(const uint8_t *bytes);
 void task_to_bytes(const struct task *task, uint8_t *bytes);
 struct strips strips_of_task(const struct task *task);
 
-/* Refusals 1 and 3 to 10 of a task with its slots; 2 is left to judging. */
+/* Refusals 1, and 3, 4, 14, slot by slot 15 to 17, then 6 to 10 of a task with its slots; 2 is left to judging. */
 uint32_t refusal_of_sizes(size_t task_len, size_t slots_len);
 uint32_t refusal_of_task(const uint8_t *task, const uint8_t *slots, size_t slots_len);
+/* Refusals 15 to 17 of a task's slot, counted from its first, whatever the other slots are like. */
+uint32_t refusal_of_slot(const struct task *task, const uint8_t *slots, uint32_t place);
 uint32_t refusal_of_strips(const struct strips *strips);
 uint32_t refusal_of_marks(const uint8_t *marks, uint64_t n, uint64_t v);
 
@@ -69,6 +71,8 @@ uint32_t definition_judge(const uint8_t *task, size_t task_len, const uint8_t *s
                           uint8_t *reply, size_t reply_len, struct verdict *verdict);
 uint64_t definition_count(const uint8_t *task, size_t task_len, const uint8_t *slots, size_t slots_len,
                           uint64_t offset);
+/* The place of the first bad slot beside 15 to 17; the strips aren't looked at. */
+uint64_t definition_which_slot(const uint8_t *task, size_t task_len, const uint8_t *slots, size_t slots_len);
 uint64_t definition_supply(const uint8_t *task, size_t task_len, const uint8_t *slots, size_t slots_len,
                            uint64_t offset);
 uint64_t definition_drop_test(const uint8_t *task, size_t task_len, const uint8_t *slots, size_t slots_len,

@@ -1,4 +1,4 @@
-/* docs/RULES.md, "Cases by hand" and "The printed sheet"; see hand.h. */
+/* docs/RULES.md, "Cases by hand" and "The printed sheet", and slot tables with their first bad slot; see hand.h. */
 #include "hand.h"
 
 #include <string.h>
@@ -38,6 +38,22 @@ struct hand_site {
     uint32_t number;
 };
 
+/* A slot buffer, the part of it that is a task's, and what which slot says of it. */
+struct hand_table {
+    const char *name;
+    uint32_t w, e, first, count;
+    const uint32_t (*slots)[2];
+    size_t records;
+    uint32_t number, place;
+};
+
+/* The same of T in buffers of other lengths. */
+struct hand_length {
+    const char *name;
+    size_t task_len, slots_len;
+    uint32_t number;
+};
+
 /* T of the paper: w 10, slot (0,8), e 4, D 5, h 14, k 2; one field is changed at a time. */
 #define T(E, M) {7, 10, (E), 5, 14, (M), 2, 0, 1}
 #define T_SLOT {{0, 8}}
@@ -57,7 +73,10 @@ static const struct hand_task tasks[] = {
     {"k 1,025 is refusal 9", {7, 10, 4, 5, 14, 1, 1025, 0, 1}, T_SLOT, 9, 0, 0, 0},
     {"k 1,024 passes", {7, 10, 3, 5, 14, 1, 1024, 0, 1}, T_SLOT, 0, 1, 0, 0},
     {"a slot (0,10) passes", T(4, 1), {{0, 10}}, 0, 1, 0, 0},
-    {"a slot (0,11) is refusal 5", T(4, 1), {{0, 11}}, 5, 0, 0, 0},
+    {"a slot (0,11) is refusal 16", T(4, 1), {{0, 11}}, 16, 0, 0, 0},
+    {"a slot (0,11) and e 0 is refusal 16", T(0, 1), {{0, 11}}, 16, 0, 0, 0},
+    {"a slot (8,8) is refusal 15", T(4, 1), {{8, 8}}, 15, 0, 0, 0},
+    {"slots (0,4), (3,8) are refusal 17", {7, 10, 4, 5, 14, 1, 2, 0, 2}, {{0, 4}, {3, 8}}, 17, 0, 0, 0},
     {"w 0 and e 0 is refusal 4", {7, 0, 0, 5, 14, 1, 2, 0, 1}, T_SLOT, 4, 0, 0, 0},
 };
 
@@ -79,10 +98,13 @@ static const struct hand_grant grants[] = {
     {"a grant over a 2", 2, 4, 1, {1, 2, 1, 1, 1}, {1, 2, 1, 1, 1}, PACKED(12, 0)},
 };
 
-/* The sheet's slots, and its three tasks with its three lines as answers; then T with e 3, which is P7, and P10. */
-static const uint32_t site_slots[][2] = {{11, 21}, {33, 43}, {0, 8}};
+/*
+ * The sheet's slots, and its three tasks with its three lines as answers; then T with e 3, which is P7, and P10; then T
+ * with slots that get 15, 16 and 17.
+ */
+static const uint32_t site_slots[][2] = {{11, 21}, {33, 43}, {0, 8}, {7, 9}, {8, 8}, {7, 11}};
 
-enum { SHEET_1, SHEET_2, SHEET_3, SIGN_P7, SIGN_P10 };
+enum { SHEET_1, SHEET_2, SHEET_3, SIGN_P7, SIGN_P10, SIGN_15, SIGN_16, SIGN_17 };
 
 static const struct hand_sign signs[] = {
     [SHEET_1] = {{1, 55, 27, 70, 70, 3, 10, 0, 2}, {1, 0, 0, 0, 0, 0, 1, 0, 7, 0, 0, 0, 39, 0, 0, 0}},
@@ -90,6 +112,9 @@ static const struct hand_sign signs[] = {
     [SHEET_3] = {{3, 10, 0, 5, 14, 1, 2, 2, 1}, {3, 0, 0, 0, 6, 0, 0, 0, 0, 0, 0, 0, 0, 0, 0, 0}},
     [SIGN_P7] = {{258, 10, 3, 5, 14, 1, 2, 2, 1}, {2, 1, 0, 0, 0, 0, 1, 0, 0, 0, 0, 0, 0, 0, 0, 0}},
     [SIGN_P10] = {{9, 10, 1, 5, 5, 1, 3, 3, 0}, {9, 0, 0, 0, 0, 0, 0, 0, 3, 0, 0, 0, 0, 0, 0, 0}},
+    [SIGN_15] = {{4, 10, 4, 5, 14, 1, 2, 4, 1}, {4, 0, 0, 0, 15, 0, 0, 0, 0, 0, 0, 0, 0, 0, 0, 0}},
+    [SIGN_16] = {{5, 10, 4, 5, 14, 1, 2, 5, 1}, {5, 0, 0, 0, 16, 0, 0, 0, 0, 0, 0, 0, 0, 0, 0, 0}},
+    [SIGN_17] = {{6, 10, 4, 5, 14, 1, 2, 2, 2}, {6, 0, 0, 0, 17, 0, 0, 0, 0, 0, 0, 0, 0, 0, 0, 0}},
 };
 
 static const struct hand_site sites[] = {
@@ -104,6 +129,8 @@ static const struct hand_site sites[] = {
     {"the same with room for a fourth answer", 3, {SHEET_1, SHEET_3, SHEET_2}, 96, 24, 64, 0},
     {"T, P7 and P10 in a site", 3, {SHEET_2, SIGN_P7, SIGN_P10}, 96, 24, 48, 0},
     {"the same record three times", 3, {SHEET_1, SHEET_1, SHEET_1}, 96, 24, 48, 0},
+    {"refusals 15, 16 and 17 in a site", 3, {SIGN_15, SIGN_16, SIGN_17}, 96, 48, 48, 0},
+    {"T behind refusal 17, on one slot of it", 3, {SIGN_17, SHEET_2, SIGN_15}, 96, 48, 48, 0},
     {"tasks of 31 bytes are refusal 1", 1, {SHEET_1}, 31, 24, 48, 1},
     {"tasks of 33 bytes are refusal 1", 2, {SHEET_1, SHEET_2}, 33, 24, 48, 1},
     {"tasks of 63 bytes are refusal 1", 2, {SHEET_1, SHEET_2}, 63, 24, 48, 1},
@@ -115,9 +142,84 @@ static const struct hand_site sites[] = {
     {"no reply for refused records is refusal 2", 1, {SHEET_3}, 32, 24, 0, 2},
 };
 
+#define SLOTS(...) (const uint32_t[][2]){__VA_ARGS__}, LENGTH(((const uint32_t[][2]){__VA_ARGS__}))
+
+/* Slots of one tick each, which fill a wheel of 65, and as many that have no tick at all. */
+#define FOUR(i) {(i), (i) + 1}, {(i) + 1, (i) + 2}, {(i) + 2, (i) + 3}, {(i) + 3, (i) + 4}
+#define SIXTEEN(i) FOUR(i), FOUR((i) + 4), FOUR((i) + 8), FOUR((i) + 12)
+
+static const uint32_t ticks[65][2] = {SIXTEEN(0), SIXTEEN(16), SIXTEEN(32), SIXTEEN(48), {64, 65}};
+static const uint32_t nothing[65][2] = {{0, 0}};
+
+/* w, e, first and count; the other fields are T's. */
+static const struct hand_table tables[] = {
+    {"no slots are good", 10, 4, 1, 0, SLOTS({5, 5}), 0, 0},
+    {"(0,10) is good in a wheel of 10", 10, 4, 0, 1, SLOTS({0, 10}), 0, 0},
+    {"(0,11) is 16", 10, 4, 0, 1, SLOTS({0, 11}), 16, 0},
+    {"slots that touch up to w are good", 10, 4, 0, 3, SLOTS({0, 4}, {4, 8}, {8, 10}), 0, 0},
+    {"the last tick of the largest wheel is good", 16384, 4, 0, 1, SLOTS({16383, 16384}), 0, 0},
+    {"a tick past the largest wheel is 16", 16384, 4, 0, 1, SLOTS({16383, 16385}), 16, 0},
+    {"a good table beside e 0", 10, 0, 0, 2, SLOTS({0, 4}, {4, 8}), 0, 0},
+    {"a bad table beside e 0", 10, 0, 0, 2, SLOTS({0, 4}, {3, 8}), 17, 1},
+    {"64 slots are good", 65, 4, 0, 64, ticks, 65, 0, 0},
+    {"64 slots, the last past the wheel", 63, 4, 0, 64, ticks, 65, 16, 63},
+    {"65 slots are 14", 65, 4, 0, 65, ticks, 65, 14, 0},
+    {"65 slots are 14, though the second ends above w", 1, 4, 0, 65, ticks, 65, 14, 0},
+    {"65 slots are 14, though each one is 15", 65, 4, 0, 65, nothing, 65, 14, 0},
+    {"64 slots, each one 15", 65, 4, 1, 64, nothing, 65, 15, 0},
+    {"w 0 is 4 before 14", 0, 4, 0, 65, ticks, 65, 4, 0},
+    {"w 16,385 is 4 before 15", 16385, 4, 0, 1, SLOTS({5, 5}), 4, 0},
+    {"w 2^32 - 1 is 4", UINT32_MAX, 4, 0, 1, SLOTS({0, 8}), 4, 0},
+    {"one record too few is 3 before 4 and 14", 0, 4, 1, 65, ticks, 65, 3, 0},
+    {"one record too few is 3 before 15", 10, 4, 0, 2, SLOTS({5, 5}), 3, 0},
+    {"no slots past the last record are 3", 10, 4, 2, 0, SLOTS({0, 8}), 3, 0},
+    {"15 in the first slot", 10, 4, 0, 3, SLOTS({4, 4}, {4, 8}, {8, 10}), 15, 0},
+    {"15 in the middle", 10, 4, 0, 3, SLOTS({0, 4}, {8, 8}, {8, 10}), 15, 1},
+    {"15 in the last slot", 10, 4, 0, 3, SLOTS({0, 4}, {4, 8}, {10, 10}), 15, 2},
+    {"15 by one tick more", 10, 4, 0, 3, SLOTS({0, 4}, {4, 8}, {10, 9}), 15, 2},
+    {"16 in the first slot", 10, 4, 0, 3, SLOTS({0, 11}, {11, 12}, {12, 13}), 16, 0},
+    {"16 in the middle", 10, 4, 0, 3, SLOTS({0, 4}, {4, 11}, {11, 12}), 16, 1},
+    {"16 in the last slot", 10, 4, 0, 3, SLOTS({0, 4}, {4, 8}, {8, 11}), 16, 2},
+    {"17 in the second slot", 10, 4, 0, 3, SLOTS({0, 4}, {3, 8}, {8, 10}), 17, 1},
+    {"17 in the middle", 10, 4, 0, 4, SLOTS({0, 4}, {4, 6}, {5, 8}, {8, 10}), 17, 2},
+    {"17 in the last slot", 10, 4, 0, 3, SLOTS({0, 4}, {4, 8}, {7, 10}), 17, 2},
+    {"17 against the slot before alone", 10, 4, 0, 3, SLOTS({0, 2}, {6, 8}, {4, 5}), 17, 2},
+    {"no 17 against the record before the part", 10, 4, 1, 2, SLOTS({0, 4}, {3, 8}, {8, 10}), 0, 0},
+    {"no look behind the part", 10, 4, 0, 2, SLOTS({0, 4}, {4, 8}, {8, 8}), 0, 0},
+    {"15 before 16", 10, 4, 0, 2, SLOTS({0, 4}, {11, 11}), 15, 1},
+    {"15 before 17", 10, 4, 0, 2, SLOTS({0, 4}, {3, 3}), 15, 1},
+    {"16 before 17", 10, 4, 0, 2, SLOTS({0, 4}, {3, 11}), 16, 1},
+    {"all three behind a slot past the wheel", 10, 4, 0, 2, SLOTS({0, 12}, {11, 11}), 16, 0},
+    {"all three, if the record before the part were a slot", 10, 4, 1, 1, SLOTS({0, 12}, {11, 11}), 15, 0},
+    {"17, then 15", 10, 4, 0, 3, SLOTS({0, 4}, {3, 8}, {9, 9}), 17, 1},
+    {"17, then 16", 10, 4, 0, 3, SLOTS({0, 4}, {3, 8}, {8, 11}), 17, 1},
+    {"16, then 15", 10, 4, 0, 2, SLOTS({0, 11}, {12, 12}), 16, 0},
+    {"15, then 16", 10, 4, 0, 2, SLOTS({4, 4}, {4, 11}), 15, 0},
+    {"15, then 17", 10, 4, 0, 2, SLOTS({4, 4}, {3, 8}), 15, 0},
+    {"16, then 17", 10, 4, 0, 2, SLOTS({0, 11}, {5, 8}), 16, 0},
+    {"17 twice", 10, 4, 0, 3, SLOTS({0, 4}, {3, 6}, {5, 8}), 17, 1},
+    {"a place is counted from the task's first", 10, 4, 2, 3, SLOTS({5, 5}, {0, 8}, {0, 2}, {2, 4}, {3, 8}), 17, 2},
+    {"place 0 behind other records", 10, 4, 2, 1, SLOTS({0, 4}, {4, 8}, {8, 8}), 15, 0},
+    {"a start of 2^32 - 1", 10, 4, 0, 1, SLOTS({UINT32_MAX, 8}), 15, 0},
+    {"an end of 2^32 - 1", 10, 4, 0, 1, SLOTS({0, UINT32_MAX}), 16, 0},
+    {"both 2^32 - 1", 10, 4, 0, 2, SLOTS({0, 8}, {UINT32_MAX, UINT32_MAX}), 15, 1},
+};
+
+/* The buffer has two records, of which T's is the first. */
+static const struct hand_length lengths[] = {
+    {"which slot of 0 bytes is refusal 1", 0, 16, 1},
+    {"which slot of 31 bytes is refusal 1", 31, 16, 1},
+    {"which slot of 33 bytes is refusal 1", 33, 16, 1},
+    {"which slot of slots of 7 bytes is refusal 1", 32, 7, 1},
+    {"which slot of slots of 9 bytes is refusal 1", 32, 9, 1},
+    {"which slot of no bytes at all is refusal 1", 0, 0, 1},
+    {"which slot of no slot records is refusal 3", 32, 0, 3},
+    {"which slot of T", 32, 16, 0},
+};
+
 size_t hand_count(void)
 {
-    return LENGTH(tasks) + LENGTH(counts) + LENGTH(grants) + LENGTH(sites);
+    return LENGTH(tasks) + LENGTH(counts) + LENGTH(grants) + LENGTH(sites) + LENGTH(tables) + LENGTH(lengths);
 }
 
 static void put_slot(uint8_t *bytes, const uint32_t slot[2])
@@ -192,6 +294,31 @@ static const char *site_case(const struct hand_site *hand, struct input *input, 
     return hand->name;
 }
 
+static const char *table_case(const struct hand_table *hand, struct input *input, struct expected *said)
+{
+    struct task task = {7, hand->w, hand->e, 5, 14, 1, 2, hand->first, hand->count};
+    input->kind = WHICH;
+    task_to_bytes(&task, input->task);
+    input->task_len = TASK_BYTES;
+    input->slots_len = hand->records * SLOT_BYTES;
+    for (size_t i = 0; i < hand->records; i++)
+        put_slot(input->slots + i * SLOT_BYTES, hand->slots[i]);
+    said->result = PACKED(hand->number, hand->place);
+    return hand->name;
+}
+
+static const char *length_case(const struct hand_length *hand, struct input *input, struct expected *said)
+{
+    put_task(input, &tasks[0]);
+    put_slot(input->slots + SLOT_BYTES, tasks[0].slot[0]);
+    input->kind = WHICH;
+    input->null_when_empty = true;
+    input->task_len = hand->task_len;
+    input->slots_len = hand->slots_len;
+    said->result = PACKED(hand->number, 0);
+    return hand->name;
+}
+
 const char *hand_case(size_t i, struct input *input, struct expected *said)
 {
     uint8_t *slots = input->slots;
@@ -205,5 +332,11 @@ const char *hand_case(size_t i, struct input *input, struct expected *said)
     i -= LENGTH(counts);
     if (i < LENGTH(grants))
         return grant_case(&grants[i], input, said);
-    return site_case(&sites[i - LENGTH(grants)], input, said);
+    i -= LENGTH(grants);
+    if (i < LENGTH(sites))
+        return site_case(&sites[i], input, said);
+    i -= LENGTH(sites);
+    if (i < LENGTH(tables))
+        return table_case(&tables[i], input, said);
+    return length_case(&lengths[i - LENGTH(tables)], input, said);
 }

@@ -22,7 +22,8 @@ enum {
     HUGE_EVERY = 20000,
     EDGE_EVERY = 200,
     SITE_EVERY = 50,
-    EDGE_SITE_EVERY = 650
+    EDGE_SITE_EVERY = 650,
+    WHICH_EVERY = 20
 };
 
 const uint32_t wheel_edges[WHEEL_EDGES] = {255,  256,  257,  2047, 2048, 2049,  4095,
@@ -265,32 +266,33 @@ static void some_table(struct rng *rng, struct table *table, uint64_t w)
     }
 }
 
-/* Spoils one slot of the table in one of the ways of refusal 5 (or makes it longer, which may be fine). */
+/* What can be wrong with a slot, refusals 15 to 17, as a set. No slot behind a good one has all three. */
+enum { EMPTY = 1, PAST = 2, EARLY = 4, ALL_TROUBLES = EMPTY | PAST | EARLY };
+
+/* Spoils a slot, often by one tick. The first one can't be early: nothing is before it. */
+static void spoil(struct rng *rng, struct table *table, uint64_t place, unsigned troubles, uint64_t w)
+{
+    uint32_t *slot = table->slot[place];
+    const uint64_t ends[] = {w + 1, w + 1, w + 2, UINT32_MAX / 2 + 1, UINT32_MAX};
+    if (troubles & PAST)
+        slot[1] = (uint32_t)at_most(pick(rng, ends, LENGTH(ends)), UINT32_MAX);
+    if (troubles & EARLY && place > 0)
+        slot[0] = table->slot[place - 1][1] - 1;
+    const uint64_t starts[] = {slot[1], slot[1], slot[1] + UINT64_C(1), UINT32_MAX};
+    if (troubles & EMPTY && troubles & EARLY)
+        slot[1] = slot[0] - (slot[0] > 0 && one_in(rng, 2));
+    else if (troubles & EMPTY)
+        slot[0] = (uint32_t)at_most(pick(rng, starts, LENGTH(starts)), UINT32_MAX);
+}
+
+/* Spoils some slot, or only makes it longer, which may be fine. */
 static void spoil_slot(struct rng *rng, struct table *table, uint32_t w)
 {
-    uint32_t *slot = table->slot[below(rng, table->n)];
-    switch (below(rng, 7)) {
-    case 0:
-        slot[0] = slot[1];
-        break;
-    case 1:
-        slot[0] = slot[1] + 1;
-        break;
-    case 2:
-        slot[1] = w + 1;
-        break;
-    case 3:
-        slot[1] = w;
-        break;
-    case 4:
-        slot[0] -= slot[0] > 0;
-        break;
-    case 5:
-        slot[1] = UINT32_MAX;
-        break;
-    default:
-        slot[0] = slot[1] = UINT32_MAX;
-    }
+    uint64_t place = below(rng, table->n);
+    if (one_in(rng, 7))
+        table->slot[place][1] = w;
+    else
+        spoil(rng, table, place, 1 + (unsigned)below(rng, ALL_TROUBLES), w);
 }
 
 /* ---- judging and counting ---- */
@@ -487,27 +489,40 @@ static void flip_bit(struct rng *rng, uint8_t *bytes, size_t n)
     *byte ^= (uint8_t)(1u << below(rng, 8));
 }
 
+/* Ways 0 to 2: longer by a part record, shorter, none. */
+enum { SLOTS_LENGTHS = 3 };
+
+static void damage_slots_length(struct rng *rng, struct input *input, uint64_t way)
+{
+    switch (way) {
+    case 0:
+        input->slots_len = at_most(input->slots_len + 1 + below(rng, 7), SLOTS_ROOM);
+        break;
+    case 1:
+        input->slots_len -= at_most(1 + below(rng, 8), input->slots_len);
+        break;
+    default:
+        input->slots_len = 0;
+    }
+}
+
 /* Damage to the bytes and lengths themselves. */
 static void damage_bytes(struct rng *rng, struct input *input)
 {
     const uint64_t task_lengths[] = {0, 1, 31, 33, TASK_ROOM};
-    switch (below(rng, 8)) {
+    uint64_t way = below(rng, SLOTS_LENGTHS + 5);
+    if (way < SLOTS_LENGTHS) {
+        damage_slots_length(rng, input, way);
+        return;
+    }
+    switch (way - SLOTS_LENGTHS) {
     case 0:
         input->task_len = pick(rng, task_lengths, LENGTH(task_lengths));
         break;
     case 1:
-        input->slots_len = at_most(input->slots_len + 1 + below(rng, 7), SLOTS_ROOM);
-        break;
-    case 2:
-        input->slots_len -= at_most(1 + below(rng, 8), input->slots_len);
-        break;
-    case 3:
-        input->slots_len = 0;
-        break;
-    case 4:
         memset(input->task, one_in(rng, 2) ? 0xff : 0, TASK_BYTES);
         break;
-    case 5:
+    case 2:
         if (input->slots_len > 0)
             scribble(rng, input->slots + below(rng, at_most(input->slots_len, 128)), 1);
         break;
@@ -731,6 +746,103 @@ static void make_grant_input(struct rng *rng, struct input *input, uint64_t work
     keep_grant_cheap(input, work);
 }
 
+/* ---- slot tables with troubles ---- */
+
+enum where { FIRST_SLOT, MIDDLE_SLOT, LAST_SLOT };
+
+static uint64_t place_of(struct rng *rng, uint64_t n, enum where where)
+{
+    if (where == MIDDLE_SLOT && n > 2)
+        return 1 + below(rng, n - 2);
+    return where == FIRST_SLOT ? 0 : n - 1;
+}
+
+static const struct {
+    unsigned troubles;
+    enum where where;
+} spoilt[] = {
+    {EMPTY, FIRST_SLOT},         {EMPTY, MIDDLE_SLOT},         {EMPTY, LAST_SLOT},
+    {PAST, FIRST_SLOT},          {PAST, MIDDLE_SLOT},          {PAST, LAST_SLOT},
+    {EARLY, MIDDLE_SLOT},        {EARLY, LAST_SLOT},           {EMPTY | PAST, FIRST_SLOT},
+    {EMPTY | PAST, MIDDLE_SLOT}, {EMPTY | EARLY, MIDDLE_SLOT}, {EMPTY | EARLY, LAST_SLOT},
+    {PAST | EARLY, MIDDLE_SLOT}, {PAST | EARLY, LAST_SLOT},
+};
+
+/* What a table is like that is asked about. There the shapes go round, so that a short run meets each. */
+enum table_shape {
+    SPOILT_TWICE = LENGTH(spoilt), /* below it: one slot is spoilt, as listed above */
+    SPOILT_OFTEN,
+    SLOTS_TOO_MANY,
+    SLOTS_TOO_MANY_SPOILT,
+    BAD_TABLES, /* what follows isn't done to the table itself */
+    WHEEL_BAD = BAD_TABLES,
+    RECORDS_TOO_FEW,
+    TASK_LENGTH,
+    SLOTS_LENGTH,
+    BYTES_DAMAGED,
+    NO_TABLE,
+    STRANGER_BEFORE, /* a good slot that the task's first would clash with */
+    TABLE_SHAPES = 32 /* the others are good */
+};
+
+static uint64_t some_slots(struct rng *rng, uint64_t shape)
+{
+    const uint64_t counts[] = {1, 2, 3, 3, 4, 8, SLOTS_MAX - 1, SLOTS_MAX, SLOTS_MAX};
+    if (shape == SLOTS_TOO_MANY || shape == SLOTS_TOO_MANY_SPOILT)
+        return SLOTS_MAX + 1;
+    return shape == NO_TABLE ? 0 : pick(rng, counts, LENGTH(counts));
+}
+
+/* A good table of n slots that fill the wheel or have gaps; the strips are cheap to judge or, half the time, bad. */
+static void draft_slots(struct rng *rng, struct draft *draft, uint64_t n)
+{
+    struct strips *s = &draft->strips;
+    uint64_t w = one_in(rng, 12) ? WHEEL_MAX : 2 * (n + 1) + below(rng, 3 * (n + 1));
+    draft->table.n = 0;
+    draft->table.room = SLOTS_MAX + 1;
+    if (n == 0 || one_in(rng, 2))
+        full(&draft->table, w, n);
+    else
+        even(rng, &draft->table, w, n);
+    s->h = 1 + below(rng, 40);
+    s->D = 1 + below(rng, s->h);
+    s->e = 1 + below(rng, s->D + 1);
+    s->k = 1 + below(rng, 6);
+    s->m = below(rng, s->k + 1);
+    if (one_in(rng, 2))
+        for (uint64_t bad = 1 + below(rng, 2); bad > 0; bad--)
+            stretch(rng, s, (enum field)below(rng, FIELDS), UINT32_MAX);
+    draft->task.w = (uint32_t)w;
+}
+
+static uint64_t slots_to_spoil(struct rng *rng, uint64_t shape)
+{
+    switch (shape) {
+    case SPOILT_TWICE:
+        return 2;
+    case SPOILT_OFTEN:
+        return 3 + below(rng, 4);
+    case WHEEL_BAD:
+    case RECORDS_TOO_FEW:
+        return below(rng, 2);
+    default:
+        return 0;
+    }
+}
+
+static void draft_shape(struct rng *rng, struct draft *draft, uint64_t shape)
+{
+    struct table *table = &draft->table;
+    draft_slots(rng, draft, some_slots(rng, shape));
+    const uint32_t w = draft->task.w;
+    if (shape < LENGTH(spoilt))
+        spoil(rng, table, place_of(rng, table->n, spoilt[shape].where), spoilt[shape].troubles, w);
+    if (shape == SLOTS_TOO_MANY_SPOILT)
+        spoil(rng, table, one_in(rng, 2) ? 0 : 1 + below(rng, SLOTS_MAX - 1), EMPTY, w);
+    for (uint64_t slots = slots_to_spoil(rng, shape); slots > 0; slots--)
+        spoil_slot(rng, table, w);
+}
+
 /* ---- sites ---- */
 
 /* No records yet, and up to two slots of strangers. */
@@ -803,8 +915,12 @@ static void append_record(struct rng *rng, struct input *input, bool damaged)
         append_sharer(rng, input);
         return;
     }
-    draft_record(rng, &draft, damaged ? 2 : 8);
-    append_draft(rng, input, &draft, damaged ? 1 + below(rng, 2) : 0);
+    bool bad_table = damaged && one_in(rng, 3);
+    if (bad_table)
+        draft_shape(rng, &draft, below(rng, BAD_TABLES));
+    else
+        draft_record(rng, &draft, damaged ? 2 : 8);
+    append_draft(rng, input, &draft, damaged && !bad_table ? 1 + below(rng, 2) : 0);
 }
 
 /* No record is accepted after this, whatever it was before. */
@@ -948,9 +1064,98 @@ static void make_edge_site(struct rng *rng, struct input *input, uint64_t number
     input->reply_len = records * ANSWER_BYTES;
 }
 
+/* ---- which slot ---- */
+
+/* 65 slots or 66, a count whose low byte would do, or the largest that a record can hold. */
+static void count_too_many(struct rng *rng, struct draft *draft)
+{
+    const uint64_t counts[] = {SLOTS_MAX + 1, SLOTS_MAX + 1, SLOTS_MAX + 2, 256 + below(rng, SLOTS_MAX + 1), 65535};
+    draft->task.count = (uint32_t)pick(rng, counts, LENGTH(counts));
+    draft->after += draft->task.count - draft->table.n;
+}
+
+/* first + count goes beyond the records, by one or by a sum that only its low 16 bits hide. */
+static void point_beyond(struct rng *rng, struct draft *draft, uint64_t turn)
+{
+    struct task *task = &draft->task;
+    switch (turn % 4) {
+    case 0:
+        task->count += draft->after + 1;
+        break;
+    case 1:
+        task->first = (uint32_t)at_most(task->first + draft->after + 1, 65535);
+        break;
+    case 2:
+        task->first = 65535;
+        task->count = 1 + (uint32_t)below(rng, 3);
+        break;
+    default:
+        task->first = task->count = 65535;
+    }
+}
+
+/* Refusals 3, 4 and 14 of the record, also two of them at once. */
+static void shape_task(struct rng *rng, struct draft *draft, uint64_t shape, uint64_t turn)
+{
+    const uint64_t wheels[] = {0, WHEEL_MAX + 1, UINT32_MAX};
+    bool few = shape == RECORDS_TOO_FEW, bad_wheel = shape == WHEEL_BAD;
+    if (shape == SLOTS_TOO_MANY || shape == SLOTS_TOO_MANY_SPOILT || (bad_wheel && one_in(rng, 3)))
+        count_too_many(rng, draft);
+    if (bad_wheel || (few && one_in(rng, 2)))
+        draft->task.w = (uint32_t)wheels[turn % LENGTH(wheels)];
+    if (few)
+        point_beyond(rng, draft, turn);
+    if (shape == BYTES_DAMAGED)
+        damage_draft(rng, draft);
+}
+
+/* The record before the task's first slot, if there is one: it fits the wheel but ends after that slot's start. */
+static void put_clash(struct input *input, const struct draft *draft, size_t first)
+{
+    if (first == 0)
+        return;
+    put_number(input->slots + (first - 1) * SLOT_BYTES, 0, 4);
+    put_number(input->slots + (first - 1) * SLOT_BYTES + 4, draft->table.slot[0][0] + 1, 4);
+}
+
+static void shape_bytes(struct rng *rng, struct input *input, uint64_t shape, uint64_t turn)
+{
+    const size_t task_lengths[] = {0, 31, 33, 1, TASK_ROOM};
+    if (shape == TASK_LENGTH)
+        input->task_len = task_lengths[turn % LENGTH(task_lengths)];
+    if (shape == SLOTS_LENGTH)
+        damage_slots_length(rng, input, below(rng, SLOTS_LENGTHS));
+    if (shape == BYTES_DAMAGED)
+        damage_bytes(rng, input);
+}
+
+static void make_which_input(struct rng *rng, struct input *input, uint64_t number)
+{
+    struct draft draft;
+    uint64_t shape = number % TABLE_SHAPES, turn = number / TABLE_SHAPES;
+    input->kind = WHICH;
+    draft_shape(rng, &draft, shape);
+    place_slots(rng, &draft);
+    if (shape == NO_TABLE && one_in(rng, 2))
+        draft.task.first = draft.after = 0; /* not a single record */
+    size_t first = draft.task.first;
+    shape_task(rng, &draft, shape, turn);
+    strips_into_task(&draft.task, &draft.strips);
+    scribble(rng, input->task, TASK_ROOM);
+    task_to_bytes(&draft.task, input->task);
+    input->task_len = TASK_BYTES;
+    lay_slots(rng, input, &draft, first);
+    if (shape == STRANGER_BEFORE)
+        put_clash(input, &draft, first);
+    shape_bytes(rng, input, shape, turn);
+    if (refusal_of_sizes(input->task_len, input->slots_len) == 0)
+        keep_cheap(input, input->task, small_work);
+    input->offset = some_offset(rng, task_of_bytes(input->task).w);
+}
+
 /* ---- all ---- */
 
-/* Sites and edges stand at numbers of their own, which no larger work has either. */
+/* Sites, edges and which slot stand at numbers of their own, which no larger work has either. */
 void make_input(struct input *input, struct rng *rng, uint64_t number)
 {
     uint64_t work = work_for(number), kind = below(rng, 10);
@@ -962,6 +1167,8 @@ void make_input(struct input *input, struct rng *rng, uint64_t number)
         make_edge_site(rng, input, number / EDGE_SITE_EVERY);
     else if (number % EDGE_EVERY == EDGE_EVERY / 4)
         make_edge_input(rng, input, number / EDGE_EVERY);
+    else if (number % WHICH_EVERY == 2 * WHICH_EVERY / 3)
+        make_which_input(rng, input, number / WHICH_EVERY);
     else if (input->kind == GRANT)
         make_grant_input(rng, input, work);
     else

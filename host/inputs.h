@@ -4,7 +4,7 @@
 
 #include "definition.h"
 
-enum kind { JUDGE, COUNT, GRANT, SITE, KINDS };
+enum kind { JUDGE, COUNT, GRANT, SITE, WHICH, KINDS };
 
 enum {
     TASK_ROOM = 64,
@@ -24,7 +24,7 @@ struct input {
     uint8_t task[SITE_TASKS_ROOM], reply[SITE_REPLY_ROOM]; /* one record and its answer, or a whole site's */
     uint8_t marks[MARKS_ROOM];
     uint8_t *slots; /* SLOTS_ROOM bytes, the caller's */
-    uint64_t offset;
+    uint64_t offset; /* of a count; also where which slot is compared with one */
     uint64_t v;
     struct strips strips; /* a grant's e, d, h, m, k */
 };

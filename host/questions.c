@@ -35,7 +35,7 @@ static struct question make_lookup(struct input *input, struct rng *rng)
     return (struct question){site, factory, site_len, factory_len, high << 32 | some_id(rng)};
 }
 
-/* What would be granted, or is a whole site, is looked up instead, and what would be judged is asked at its offset. */
+/* What would be granted, or is a whole site, is looked up instead; any other task is asked about at its offset. */
 struct question make_question(struct input *input, uint64_t seed, uint64_t i)
 {
     struct rng rng = rng_for(seed, i);
@@ -120,6 +120,12 @@ void question_tally_add(struct question_tally *tally, const struct question *q, 
     add_lookup(tally, q, answers);
 }
 
+/* The numbers that a question at a half tick knows: neither the reply's nor a grant's, and nothing gives 5. */
+static bool knows(uint32_t number)
+{
+    return number != 2 && number != 5 && number != 12 && number != 13;
+}
+
 unsigned question_tally_print(const struct question_tally *tally)
 {
 #define QUESTION_TEXT(id, text) text,
@@ -127,8 +133,8 @@ unsigned question_tally_print(const struct question_tally *tally)
 #undef QUESTION_TEXT
     unsigned never = 0;
     for (uint32_t number = 0; number < LENGTH(tally->numbers); number++) {
-        if (number == 2)
-            continue; /* the reply's refusal */
+        if (!knows(number))
+            continue;
         printf("%10" PRIu64 "  refusal %" PRIu32 "\n", tally->numbers[number], number);
         never += tally->numbers[number] == 0;
     }

@@ -52,7 +52,7 @@ enum question_class { QUESTION_CLASSES(QUESTION_ID) QUESTION_CLASS_COUNT };
 #undef QUESTION_ID
 
 struct question_tally {
-    uint64_t numbers[12]; /* refusals of the questions at a half tick */
+    uint64_t numbers[18]; /* refusals of the questions at a half tick */
     uint64_t met[QUESTION_CLASS_COUNT];
 };
 

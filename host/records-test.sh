@@ -1,5 +1,5 @@
 #!/bin/sh
-# Tries `records`: round trip, and each kind of complaint. Usage: records-test.sh RECORDS
+# Tries `records`: round trip, each kind of complaint, and what it says of slots that are wrong. Usage: records-test.sh RECORDS
 set -u
 records=$1
 folder=$(mktemp -d) || exit 1
@@ -30,6 +30,34 @@ complains() {
     [ "$left" = "${3:-}" ] || fail "$1: left $left"
 }
 
+# written NAME: both tables, comments and blank lines left out, must be in the records.
+written() {
+    { for table in tasks slots; do echo "# $table.csv"; grep -v -e '^#' -e '^$' "$folder/$table.csv"; done; } >"$folder/expected"
+    "$records" show "$folder" >"$folder/shown" || fail "$1: show"
+    cmp -s "$folder/shown" "$folder/expected" || fail "$1: shown differently"
+}
+
+# tells NAME TEXT: `make` must end well, write the records, print nothing, and say TEXT, in which the folder is left out.
+tells() {
+    tried=$((tried + 1))
+    rm -f "$folder"/*.bin
+    "$records" make "$folder" >"$folder/printed" 2>"$folder/said" || fail "$1: exit status $?"
+    said=$(sed "s|$folder/||g" "$folder/said")
+    [ "$said" = "$2" ] || fail "$1: said \"$said\", not \"$2\""
+    [ ! -s "$folder/printed" ] || fail "$1: printed \"$(cat "$folder/printed")\""
+    written "$1"
+}
+
+# tables TASKS SLOTS: a fresh folder whose tables have these lines, with \n between them, behind their headers.
+tables() {
+    rm -rf "$folder"/*
+    printf "$tasks_header\n%b\n" "$1" >"$folder/tasks.csv"
+    printf "$slots_header\n%b\n" "$2" >"$folder/slots.csv"
+}
+
+# slots N: N slots of a tick each, as lines of a table.
+slots() { awk -v n="$1" 'BEGIN { for (i = 0; i < n; i++) printf "%d,%d\n", 2 * i, 2 * i + 1 }'; }
+
 # bad_task NAME LINE TEXT, bad_slot NAME LINE TEXT: a second line that can't be read.
 bad_task() { fresh; printf '%s\n' "$2" >>"$folder/tasks.csv"; complains "$1" "tasks.csv:3: $3"; }
 bad_slot() { fresh; printf '%s\n' "$2" >>"$folder/slots.csv"; complains "$1" "slots.csv:4: $3"; }
@@ -42,7 +70,7 @@ fresh
     printf ' 1, 55,27,70,70,3,10,0,2 \n   \n#x\n'
     printf '4294967295,4294967295,0,4294967295,4294967295,1,2,65535,65535'
 } >"$folder/tasks.csv"
-"$records" make "$folder" || fail 'round trip: make'
+"$records" make "$folder" 2>/dev/null || fail 'round trip: make'
 "$records" show "$folder" >"$folder/shown" || fail 'round trip: show'
 cat >"$folder/expected" <<END
 # tasks.csv
@@ -62,7 +90,7 @@ cp "$folder/tasks.bin" "$folder/tasks.first"
 cp "$folder/slots.bin" "$folder/slots.first"
 sed '/^# slots.csv/,$d' "$folder/shown" >"$folder/tasks.csv"
 sed '1,/^# slots.csv/d' "$folder/shown" >"$folder/slots.csv"
-"$records" make "$folder" || fail 'second round: make'
+"$records" make "$folder" 2>/dev/null || fail 'second round: make'
 cmp -s "$folder/tasks.bin" "$folder/tasks.first" || fail 'second round: tasks.bin'
 cmp -s "$folder/slots.bin" "$folder/slots.first" || fail 'second round: slots.bin'
 
@@ -70,7 +98,7 @@ cmp -s "$folder/slots.bin" "$folder/slots.first" || fail 'second round: slots.bi
 tried=$((tried + 1))
 fresh
 printf '%s\n67305985,2,3,4,5,6,7,258,9\n' "$tasks_header" >"$folder/tasks.csv"
-"$records" make "$folder" || fail 'bytes: make'
+"$records" make "$folder" 2>/dev/null || fail 'bytes: make'
 bytes=$(od -An -v -tx1 "$folder/tasks.bin" | tr -d ' \n')
 [ "$bytes" = 0102030402000000030000000400000005000000060000000700000002010900 ] || fail "bytes: $bytes"
 
@@ -91,7 +119,7 @@ cmp -s "$folder/slots.bin" "$folder/slots.first" || fail 'byte-order mark: slots
 tried=$((tried + 1))
 fresh
 echo "$slots_header" >"$folder/slots.csv"
-"$records" make "$folder" || fail 'no slots: make'
+"$records" make "$folder" 2>/dev/null || fail 'no slots: make'
 [ -e "$folder/slots.bin" ] && [ ! -s "$folder/slots.bin" ] || fail 'no slots: slots.bin'
 
 bad_task 'a word' '1,55,x7,70,70,3,10,0,2' 'field e: not a number: "x7"'
@@ -135,6 +163,15 @@ echo '1,2' >>"$folder/tasks.csv"
 "$records" make "$folder" 2>/dev/null && fail 'old output: taken'
 cmp -s "$folder/tasks.bin" "$folder/tasks.first" || fail 'old output: changed'
 
+# The records may go into another folder; the tables' own stays as it is.
+tried=$((tried + 1))
+fresh
+mkdir "$folder/into"
+"$records" make "$folder" "$folder/into" || fail 'another folder: make'
+[ -e "$folder/tasks.bin" ] || [ -e "$folder/slots.bin" ] && fail "another folder: the tables' own has records, too"
+"$records" show "$folder/into" >"$folder/shown" || fail 'another folder: show'
+grep -qx '1,55,27,70,70,3,10,0,2' "$folder/shown" || fail 'another folder: other records'
+
 # A part record is shown as far as it goes and complained about.
 tried=$((tried + 1))
 fresh
@@ -142,6 +179,68 @@ fresh
 printf 'x' >>"$folder/tasks.bin"
 "$records" show "$folder" >"$folder/shown" 2>"$folder/said" && fail 'part record: taken'
 grep -qF "tasks.bin: 33 bytes, the last record isn't whole" "$folder/said" || fail 'part record: said something else'
+
+# Tables that would be refused: the line is named, and the records are written all the same.
+beyond='first + count goes beyond the last slot record'
+wheel="the wheel w isn't from 1 to 16,384 ticks"
+many='the task has more than 64 slots'
+empty="a slot whose start isn't below its end"
+past='a slot whose end is above the wheel w'
+early='a slot whose start is below the end of the slot before it'
+task='7,55,27,70,70,3,10,0,3'
+
+tables "$task" '0,10\n10,20\n50,55'; tells 'slots that touch and end with the wheel' ''
+tables '7,55,27,70,70,3,10,0,0\n8,0,0,0,0,0,0,0,0' ''; tells 'no slots' "tasks.csv:3: task 8: $wheel"
+tables '7,55,0,0,0,9,0,0,3' '0,10\n10,20\n50,55'; tells 'other numbers' ''
+
+tables "$task" '10,10\n20,30\n40,50'; tells '15 in the first slot' "slots.csv:2: slot 0 of task 7 (tasks.csv:2): $empty"
+tables "$task" '0,10\n30,20\n40,50'; tells '15 in a middle slot' "slots.csv:3: slot 1 of task 7 (tasks.csv:2): $empty"
+tables "$task" '0,10\n20,30\n50,40'; tells '15 in the last slot' "slots.csv:4: slot 2 of task 7 (tasks.csv:2): $empty"
+tables "$task" '0,56\n20,30\n40,50'; tells '16 in the first slot' "slots.csv:2: slot 0 of task 7 (tasks.csv:2): $past"
+tables "$task" '0,10\n20,56\n40,50'; tells '16 in a middle slot' "slots.csv:3: slot 1 of task 7 (tasks.csv:2): $past"
+tables "$task" '0,10\n20,30\n40,56'; tells '16 in the last slot' "slots.csv:4: slot 2 of task 7 (tasks.csv:2): $past"
+tables "$task" '0,10\n9,30\n40,50'; tells '17 in a middle slot' "slots.csv:3: slot 1 of task 7 (tasks.csv:2): $early"
+tables "$task" '0,10\n20,30\n29,50'; tells '17 in the last slot' "slots.csv:4: slot 2 of task 7 (tasks.csv:2): $early"
+tables '7,55,27,70,70,3,10,1,2' '0,30\n20,30\n40,50'; tells "another task's slot before the first" ''
+
+tables "$task" '0,30\n80,70\n40,50'; tells '15 and 16 in one slot' "slots.csv:3: slot 1 of task 7 (tasks.csv:2): $empty"
+tables "$task" '0,30\n20,70\n40,50'; tells '16 and 17 in one slot' "slots.csv:3: slot 1 of task 7 (tasks.csv:2): $past"
+tables "$task" '0,30\n20,40\n50,50'; tells 'two bad slots' "slots.csv:3: slot 1 of task 7 (tasks.csv:2): $early"
+
+tables "$task" '0,10\n20,30'; tells '3 by one' "tasks.csv:2: task 7: $beyond"
+tables '7,55,27,70,70,3,10,65535,65535' '0,10'; tells '3 by far' "tasks.csv:2: task 7: $beyond"
+tables '7,0,27,70,70,3,10,0,3' '0,10\n20,30'; tells '3 before 4' "tasks.csv:2: task 7: $beyond"
+tables '7,0,27,70,70,3,10,0,1' '5,5'; tells '4 for no wheel' "tasks.csv:2: task 7: $wheel"
+tables '7,16384,27,70,70,3,10,0,1\n8,16385,27,70,70,3,10,0,1' '0,10'; tells '4 for a large one' "tasks.csv:3: task 8: $wheel"
+tables '7,200,27,70,70,3,10,0,65\n8,200,27,70,70,3,10,1,64' "$(slots 65)"; tells '14' "tasks.csv:2: task 7: $many"
+tables '7,100,27,70,70,3,10,0,65' "$(slots 65)"; tells '14 before 16' "tasks.csv:2: task 7: $many"
+tables '7,0,27,70,70,3,10,0,65' "$(slots 65)"; tells '4 before 14' "tasks.csv:2: task 7: $wheel"
+
+# Lines that hold no record are counted, and a byte-order mark isn't one.
+tables '\n# a sign\n7,55,27,70,70,3,10,0,3\n\n8,0,27,70,70,3,10,0,3' '\n0,10\n# one too long\n\n20,56\n40,50'
+tells 'blank lines and comments' "slots.csv:6: slot 1 of task 7 (tasks.csv:4): $past
+tasks.csv:6: task 8: $wheel"
+fresh
+printf '\357\273\277# signs\n\n%s\n1,55,27,70,70,3,10,0,2' "$tasks_header" >"$folder/tasks.csv"
+printf '\357\273\277%s\n11,21\n#\n33,56' "$slots_header" >"$folder/slots.csv"
+tried=$((tried + 1))
+"$records" make "$folder" 2>"$folder/said" || fail 'lines behind a mark: make'
+[ "$(cat "$folder/said")" = "$folder/slots.csv:4: slot 1 of task 1 ($folder/tasks.csv:4): $past" ] ||
+    fail "lines behind a mark: said \"$(cat "$folder/said")\""
+
+tables '7,55,27,70,70,3,10,0,3\n8,55,27,70,70,3,10,1,1\n9,60,27,70,70,3,10,0,2\n10,55,27,70,70,3,10,2,1' '0,10\n20,56\n40,50'
+tells 'a slot of three tasks, bad for two' "slots.csv:3: slot 1 of task 7 (tasks.csv:2): $past
+slots.csv:3: slot 0 of task 8 (tasks.csv:3): $past"
+
+# More records than the first memory has room for.
+tables "$(awk 'BEGIN { for (i = 0; i < 700; i++) printf "%d,2000,1,1,1,1,1,%d,1\n", i, i }')" "$(slots 650)\n1300,1300\n$(slots 49)"
+tells 'hundreds of records' "slots.csv:652: slot 0 of task 650 (tasks.csv:652): $empty"
+
+# A table that can't be read is complained of alone.
+tried=$((tried + 1))
+tables "$task" '0,10\n20,56\n40'
+"$records" make "$folder" 2>"$folder/said" && fail 'a bad slot and a missing field: taken'
+[ "$(cat "$folder/said")" = "$folder/slots.csv:4: field end: missing" ] || fail "a missing field: said \"$(cat "$folder/said")\""
 
 tried=$((tried + 1))
 "$records" >/dev/null 2>&1

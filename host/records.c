@@ -1,16 +1,21 @@
 /*
  * Turns a site's tables into records and back.
  *
- *   records make FOLDER   FOLDER/tasks.csv and slots.csv into tasks.bin and slots.bin
- *   records show FOLDER   prints tasks.bin and slots.bin as tables
+ *   records make FOLDER [INTO]   FOLDER/tasks.csv and slots.csv into tasks.bin and slots.bin, in FOLDER or in INTO
+ *   records show FOLDER          prints tasks.bin and slots.bin as tables
  *
  * A table has a header line with its columns' names. Lines that are blank or
  * begin with '#' are skipped, and so is the byte-order mark that spreadsheets
- * put before the first line. Nothing is judged here: any number that fits its
- * field is taken, so that refusals can be tried too.
+ * put before the first line.
+ *
+ * `make` takes any number that fits its field, so that refusals can be tried
+ * too. Where a task's table would be refused it says on standard error which
+ * line is wrong and why, but the records are written all the same and the exit
+ * status stays 0. A task's other numbers aren't looked at.
  */
 #include "bytes.h"
 #include "files.h"
+#include "fiddlequill.h"
 
 #include <errno.h>
 #include <inttypes.h>
@@ -32,13 +37,13 @@ struct table {
     struct column column[COLUMNS_MAX];
 };
 
-static const struct table tables[] = {
-    {"tasks.csv", "tasks.bin", "tasks.bin.part", 9, 32,
-     {{"id", 4}, {"w", 4}, {"e", 4}, {"D", 4}, {"h", 4}, {"m", 4}, {"k", 4}, {"first", 2}, {"count", 2}}},
-    {"slots.csv", "slots.bin", "slots.bin.part", 2, 8, {{"start", 4}, {"end", 4}}},
-};
+enum { TASKS, SLOTS, TABLES };
 
-enum { TABLES = sizeof tables / sizeof *tables };
+static const struct table tables[TABLES] = {
+    [TASKS] = {"tasks.csv", "tasks.bin", "tasks.bin.part", 9, FIDDLEQUILL_TASK_BYTES,
+               {{"id", 4}, {"w", 4}, {"e", 4}, {"D", 4}, {"h", 4}, {"m", 4}, {"k", 4}, {"first", 2}, {"count", 2}}},
+    [SLOTS] = {"slots.csv", "slots.bin", "slots.bin.part", 2, FIDDLEQUILL_SLOT_BYTES, {{"start", 4}, {"end", 4}}},
+};
 
 /* ---- reading a table ---- */
 
@@ -52,9 +57,12 @@ struct place {
     size_t line;
 };
 
+/* A table's records, and the line that each comes from. */
 struct records {
+    char path[PATH_ROOM]; /* the table's */
     uint8_t *bytes;
-    size_t len, room;
+    size_t *lines;
+    size_t count, room; /* records */
 };
 
 static bool is_blank(char c)
@@ -143,26 +151,36 @@ static int read_number(const struct column *column, const struct place *place, s
     return 0;
 }
 
-static uint8_t *one_more(struct records *records, size_t bytes)
+static int make_room(const struct table *table, struct records *records)
 {
-    if (records->room - records->len < bytes) {
-        size_t room = 2 * records->room + 4096;
-        uint8_t *more = realloc(records->bytes, room);
-        if (more == NULL) {
-            fprintf(stderr, "records: out of memory\n");
-            return NULL;
-        }
-        records->bytes = more;
-        records->room = room;
+    size_t room = 2 * records->room + 128;
+    uint8_t *bytes = realloc(records->bytes, room * table->record_bytes);
+    if (bytes != NULL)
+        records->bytes = bytes;
+    size_t *lines = realloc(records->lines, room * sizeof *lines);
+    if (lines != NULL)
+        records->lines = lines;
+    if (bytes == NULL || lines == NULL) {
+        fprintf(stderr, "records: out of memory\n");
+        return -1;
     }
-    records->len += bytes;
-    return records->bytes + records->len - bytes;
+    records->room = room;
+    return 0;
+}
+
+/* The bytes of one more record, NULL where there is no memory for it. */
+static uint8_t *one_more(const struct table *table, size_t line, struct records *records)
+{
+    if (records->count == records->room && make_room(table, records) != 0)
+        return NULL;
+    records->lines[records->count] = line;
+    return records->bytes + records->count++ * table->record_bytes;
 }
 
 static int read_record(const struct table *table, const struct place *place, const struct text *fields,
                        struct records *records)
 {
-    uint8_t *at = one_more(records, table->record_bytes);
+    uint8_t *at = one_more(table, place->line, records);
     if (at == NULL)
         return -1;
     for (size_t i = 0; i < table->columns; i++) {
@@ -209,6 +227,7 @@ static int read_table(const struct table *table, const char *folder, struct reco
     struct file file;
     if (read_file(&file, folder, table->csv) != 0)
         return -1;
+    memcpy(records->path, file.path, sizeof records->path);
     int status = read_lines(table, &file, records);
     free(file.bytes);
     return status;
@@ -216,9 +235,10 @@ static int read_table(const struct table *table, const char *folder, struct reco
 
 /* ---- make ---- */
 
-static bool write_records(FILE *stream, const struct records *records)
+static bool write_records(FILE *stream, const struct table *table, const struct records *records)
 {
-    bool written = records->len == 0 || fwrite(records->bytes, 1, records->len, stream) == records->len;
+    bool written = records->count == 0 ||
+                   fwrite(records->bytes, table->record_bytes, records->count, stream) == records->count;
     return fclose(stream) == 0 && written;
 }
 
@@ -229,7 +249,7 @@ static int write_part(const struct table *table, const char *folder, const struc
     if (join_path(path, folder, table->part) != 0)
         return -1;
     FILE *stream = fopen(path, "wb");
-    if (stream != NULL && write_records(stream, records))
+    if (stream != NULL && write_records(stream, table, records))
         return 0;
     fprintf(stderr, "%s: %s\n", path, strerror(errno));
     if (stream != NULL)
@@ -268,16 +288,37 @@ static int write_all(const char *folder, const struct records *records)
     return renamed == TABLES ? 0 : -1;
 }
 
-static int make(const char *folder)
+/* Says which line is wrong, and why, where the table of task i would be refused. */
+static void tell_trouble(const struct records *tasks, const struct records *slots, size_t i)
 {
-    struct records records[TABLES] = {{NULL, 0, 0}};
+    const uint8_t *task = tasks->bytes + i * FIDDLEQUILL_TASK_BYTES;
+    uint64_t packed = fiddlequill_which_slot(task, FIDDLEQUILL_TASK_BYTES, slots->bytes,
+                                             slots->count * FIDDLEQUILL_SLOT_BYTES);
+    uint32_t number = fiddlequill_number(packed), slot = fiddlequill_value(packed);
+    uint32_t id = get_number(task, 4), first = get_number(task + 28, 2);
+    if (fiddlequill_about_slot(number)) {
+        fprintf(stderr, "%s:%zu: slot %" PRIu32 " of task %" PRIu32, slots->path, slots->lines[first + slot], slot, id);
+        fprintf(stderr, " (%s:%zu): %s\n", tasks->path, tasks->lines[i], fiddlequill_meaning(number));
+    } else if (number != FIDDLEQUILL_OK) {
+        fprintf(stderr, "%s:%zu: task %" PRIu32 ": %s\n", tasks->path, tasks->lines[i], id,
+                fiddlequill_meaning(number));
+    }
+}
+
+static int make(const char *folder, const char *into)
+{
+    struct records records[TABLES] = {{.bytes = NULL}};
     int status = 0;
     for (size_t i = 0; i < TABLES && status == 0; i++)
         status = read_table(&tables[i], folder, &records[i]);
+    for (size_t i = 0; i < records[TASKS].count && status == 0; i++)
+        tell_trouble(&records[TASKS], &records[SLOTS], i);
     if (status == 0)
-        status = write_all(folder, records);
-    for (size_t i = 0; i < TABLES; i++)
+        status = write_all(into, records);
+    for (size_t i = 0; i < TABLES; i++) {
         free(records[i].bytes);
+        free(records[i].lines);
+    }
     return status;
 }
 
@@ -323,10 +364,10 @@ static int show(const char *folder)
 
 int main(int argc, char **argv)
 {
-    if (argc == 3 && strcmp(argv[1], "make") == 0)
-        return make(argv[2]) == 0 ? 0 : 1;
+    if ((argc == 3 || argc == 4) && strcmp(argv[1], "make") == 0)
+        return make(argv[2], argv[argc - 1]) == 0 ? 0 : 1;
     if (argc == 3 && strcmp(argv[1], "show") == 0)
         return show(argv[2]) == 0 ? 0 : 1;
-    fprintf(stderr, "usage: records make FOLDER\n       records show FOLDER\n");
+    fprintf(stderr, "usage: records make FOLDER [INTO]\n       records show FOLDER\n");
     return 2;
 }

@@ -111,6 +111,11 @@ fresh; rm "$folder/site/slots.bin"; mkdir "$folder/site/slots.bin"
 says 'a folder for slots.bin' "make sheet: $folder/site/slots.bin: not a file" "$only"
 fresh; rm "$folder/site"/*; cp "$site"/*.csv "$folder/site"
 says 'tables' '' "$whole"
+# Tables with a bad slot make a sheet like any others, and the slot's line is said beside it.
+fresh; rm "$folder/site"/*
+printf 'id,w,e,D,h,m,k,first,count\n1,55,27,70,70,3,10,0,2\n' >"$folder/site/tasks.csv"
+printf 'start,end\n11,21\n33,56\n' >"$folder/site/slots.csv"
+says 'a bad slot' "$folder/site/slots.csv:3: slot 1 of task 1 ($folder/site/tasks.csv:2): a slot whose end is above the wheel w" '1 16 0 0 0'
 fresh; rm "$folder/site"/*; cp "$site/tasks.csv" "$folder/site"
 says 'no slots.csv' "make sheet: $folder/site/slots.csv: no such file" "$only"
 fresh; rm "$folder/site"/*; cp "$site/slots.csv" "$folder/site"

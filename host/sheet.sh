@@ -30,8 +30,7 @@ if [ ! -e "$site/tasks.bin" ] && { [ -e "$site/tasks.csv" ] || [ -e "$site/slots
     rm -rf "$room"
     mkdir -p "$room"
     if has_both csv; then
-        cp "$site/tasks.csv" "$site/slots.csv" "$room"
-        "$records" make "$room"
+        "$records" make "$site" "$room"
     fi
 else
     has_both bin || true

@@ -81,6 +81,13 @@ static void *site(void *context)
     return NULL;
 }
 
+static void *which_slot(void *context)
+{
+    struct biggest *b = context;
+    b->number = fiddlequill_number(fiddlequill_which_slot(b->task, sizeof b->task, b->slots, sizeof b->slots));
+    return NULL;
+}
+
 static void *count(void *context)
 {
     struct biggest *b = context;
@@ -131,7 +138,7 @@ int main(void)
     static const struct {
         const char *name;
         void *(*call)(void *);
-    } calls[] = {{"judge", judge}, {"site", site}, {"count", count}, {"grant", grant}};
+    } calls[] = {{"judge", judge}, {"site", site}, {"which slot", which_slot}, {"count", count}, {"grant", grant}};
     static const uint32_t wheels[] = {128, 1280, 4096, FIDDLEQUILL_WHEEL_MAX};
     size_t deepest = 0;
     for (size_t i = 0; i < sizeof calls / sizeof *calls; i++)

@@ -28,6 +28,18 @@ static void note_edge(struct tally *tally, uint64_t w, enum edge_use use, bool m
         tally->edges[i][use] += met && w == wheel_edges[i];
 }
 
+/* Where the first bad slot of a record is, if one is refused. */
+static void note_place(struct tally *tally, enum kind kind, const uint8_t *record, const struct input *input)
+{
+    uint64_t which = definition_which_slot(record, TASK_BYTES, input->slots, input->slots_len);
+    uint32_t number = (uint32_t)(which >> 32), place = (uint32_t)which;
+    if (number < ABOUT_SLOT)
+        return;
+    bool last = place + 1 == task_of_bytes(record).count;
+    enum slot_place where = place == 0 ? FIRST_PLACE : last ? LAST_PLACE : MIDDLE_PLACE;
+    tally->places[kind][number - ABOUT_SLOT][where]++;
+}
+
 /* ---- tasks ---- */
 
 static void add_table(struct tally *tally, const struct task *task, const struct input *input)
@@ -105,14 +117,14 @@ static void add_sizes(struct tally *tally, const struct input *input, uint32_t n
     note(tally, REPLY_15, number == 2 && input->reply_len == ANSWER_BYTES - 1);
 }
 
-/* Is it the number of slots alone that is refused? */
-static bool one_slot_less_would_do(const struct task *task, const struct input *input)
+/* Which slot, if the task had no more than its first 64: is it their number alone that is refused? */
+static uint64_t which_of_64(const struct task *task, const struct input *input)
 {
     struct task less = *task;
     uint8_t bytes[TASK_BYTES];
-    less.count--;
+    less.count = SLOTS_MAX;
     task_to_bytes(&less, bytes);
-    return refusal_of_task(bytes, input->slots, input->slots_len) != 5;
+    return definition_which_slot(bytes, TASK_BYTES, input->slots, input->slots_len);
 }
 
 static void add_refused(struct tally *tally, const struct task *task, const struct input *input, uint32_t number)
@@ -122,9 +134,10 @@ static void add_refused(struct tally *tally, const struct task *task, const stru
     note(tally, SUM_WIDE, number == 3 && last > 65535 && (last & 65535) <= records);
     note(tally, ONES, number == 3 && task->id == UINT32_MAX && task->w == UINT32_MAX && task->count == 65535);
     note(tally, PAST_WHEEL, number == 4 && task->w == WHEEL_MAX + 1);
-    note(tally, COUNT_65, number == 5 && task->count == SLOTS_MAX + 1 && one_slot_less_would_do(task, input));
-    note(tally, COUNT_WIDE, number == 5 && task->count == 65535);
+    note(tally, COUNT_65, number == 14 && task->count == SLOTS_MAX + 1 && which_of_64(task, input) == 0);
+    note(tally, COUNT_WIDE, number == 14 && task->count == 65535);
     note(tally, ORDER_4_6, number == 4 && task->e == 0);
+    note(tally, ORDER_14_6, number >= 14 && task->e == 0);
     note(tally, PAST_NEED, number == 6 && task->e == NEED_MAX + 1);
     note(tally, PAST_PERIOD, number == 7 && task->h == PERIOD_MAX + 1);
     note(tally, PAST_DEADLINE, number == 8 && task->D == task->h + 1);
@@ -143,6 +156,7 @@ static void add_task(struct tally *tally, const struct input *input, const struc
     struct task task = task_of_bytes(input->task);
     if (number != 0) {
         add_refused(tally, &task, input, number);
+        note_place(tally, input->kind, input->task, input);
         return;
     }
     add_table(tally, &task, input);
@@ -305,6 +319,7 @@ static void add_signs(struct tally *tally, const struct input *input, const stru
     size_t good = 0;
     for (size_t i = 0; i < n; i++) {
         tally->answers[signs[i].number]++;
+        note_place(tally, SITE, input->task + i * TASK_BYTES, input);
         good += signs[i].number == 0;
         note_edge(tally, signs[i].task.w, site_edge_use_of(&signs[i].task), signs[i].worst > 0 && n > 1);
         note(tally, SITE_BETWEEN, i > 0 && i + 1 < n && signs[i - 1].number == 0 && signs[i].number != 0 &&
@@ -351,6 +366,149 @@ static void add_refused_site(struct tally *tally, const struct input *input, uin
     note(tally, SITE_REPLY_EMPTY, number == 2 && input->reply_len == 0);
 }
 
+/* ---- which slot ---- */
+
+static uint32_t start_of(const struct input *input, size_t record)
+{
+    return get_number(input->slots + record * SLOT_BYTES, 4);
+}
+
+static uint32_t end_of(const struct input *input, size_t record)
+{
+    return get_number(input->slots + record * SLOT_BYTES + 4, 4);
+}
+
+static void add_strangers(struct tally *tally, const struct task *task, const struct input *input)
+{
+    size_t first = task->first, behind = first + task->count;
+    uint32_t w = task->w;
+    bool before_fits = first > 0 && start_of(input, first - 1) < end_of(input, first - 1) &&
+                       end_of(input, first - 1) <= w;
+    note(tally, WHICH_BEFORE, before_fits && task->count > 0 && start_of(input, first) < end_of(input, first - 1));
+    note(tally, WHICH_BEHIND, behind < input->slots_len / SLOT_BYTES &&
+                                  (start_of(input, behind) >= end_of(input, behind) || end_of(input, behind) > w));
+}
+
+static void add_good_table(struct tally *tally, const struct task *task, const struct input *input)
+{
+    struct strips strips = strips_of_task(task);
+    uint32_t number = refusal_of_strips(&strips), last_end = 0;
+    bool touching = false;
+    for (size_t i = task->first; i < task->first + task->count; i++) {
+        touching |= i > task->first && start_of(input, i) == last_end;
+        last_end = end_of(input, i);
+    }
+    note(tally, WHICH_NONE, task->count == 0);
+    note(tally, WHICH_NULL, input->slots_len == 0 && input->null_when_empty);
+    note(tally, WHICH_64, task->count == SLOTS_MAX);
+    note(tally, WHICH_TOUCHING, touching);
+    note(tally, WHICH_AT_WHEEL, last_end == task->w);
+    note(tally, WHICH_LARGEST, last_end == WHEEL_MAX);
+    note(tally, WHICH_BAD_NEED, number == 6);
+    note(tally, WHICH_BAD_PERIOD, number == 7);
+    note(tally, WHICH_BAD_DEADLINE, number == 8);
+    note(tally, WHICH_BAD_STRIPS, number == 9);
+    note(tally, WHICH_BAD_PAINTED, number == 10);
+    add_strangers(tally, task, input);
+}
+
+static void add_refused_lengths(struct tally *tally, const struct input *input)
+{
+    note(tally, WHICH_EMPTY, input->task_len == 0);
+    note(tally, WHICH_31, input->task_len == TASK_BYTES - 1);
+    note(tally, WHICH_33, input->task_len == TASK_BYTES + 1);
+    note(tally, WHICH_SLOTS_ODD, input->task_len == TASK_BYTES);
+}
+
+static bool some_slot_is_empty(const struct task *task, const struct input *input)
+{
+    for (uint32_t place = 0; place < task->count; place++)
+        if (refusal_of_slot(task, input->slots, place) == 15)
+            return true;
+    return false;
+}
+
+/* Refusals 3, 4 and 14, which are about no single slot. */
+static void add_refused_table(struct tally *tally, const struct task *task, const struct input *input, uint32_t number)
+{
+    uint64_t records = input->slots_len / SLOT_BYTES, last = task->first + task->count;
+    bool many = task->count > SLOTS_MAX, beyond = number == 3, wheel = number == 4;
+    note(tally, WHICH_NO_RECORDS, beyond && records == 0);
+    note(tally, WHICH_ONE_BEYOND, beyond && last == records + 1);
+    note(tally, WHICH_SUM_WIDE, beyond && last > 65535 && (last & 65535) <= records);
+    note(tally, WHICH_3_4, beyond && (task->w == 0 || task->w > WHEEL_MAX));
+    note(tally, WHICH_3_14, beyond && many);
+    note(tally, WHICH_W_0, wheel && task->w == 0);
+    note(tally, WHICH_W_16385, wheel && task->w == WHEEL_MAX + 1);
+    note(tally, WHICH_W_WIDE, wheel && task->w == UINT32_MAX);
+    note(tally, WHICH_4_14, wheel && many);
+    note(tally, WHICH_4_15, wheel && some_slot_is_empty(task, input));
+    if (number != 14)
+        return;
+    uint64_t rest = which_of_64(task, input);
+    note(tally, WHICH_65, task->count == SLOTS_MAX + 1 && rest == 0);
+    note(tally, WHICH_LOW_BYTE, task->count > 255 && task->count % 256 <= SLOTS_MAX);
+    note(tally, WHICH_COUNT_WIDE, task->count == 65535);
+    note(tally, WHICH_14_FIRST, rest != 0 && (uint32_t)rest == 0);
+    note(tally, WHICH_14_LATER, (uint32_t)rest > 0);
+}
+
+/* What the slots behind the first bad one have: nothing of it may show. */
+static void add_later_slots(struct tally *tally, const struct task *task, const struct input *input, uint32_t number,
+                            uint32_t place)
+{
+    bool lower = false, same = false, higher = false;
+    for (uint32_t later = place + 1; later < task->count; later++) {
+        uint32_t other = refusal_of_slot(task, input->slots, later);
+        lower |= other != 0 && other < number;
+        same |= other == number;
+        higher |= other > number;
+    }
+    note(tally, WHICH_LOWER_LATER, lower);
+    note(tally, WHICH_SAME_LATER, same);
+    note(tally, WHICH_HIGHER_LATER, higher);
+}
+
+static void add_bad_slot(struct tally *tally, const struct task *task, const struct input *input, uint32_t number,
+                         uint32_t place)
+{
+    size_t record = task->first + place;
+    uint64_t start = start_of(input, record), end = end_of(input, record);
+    uint64_t previous_end = place > 0 ? end_of(input, record - 1) : 0;
+    bool past = end > task->w, early = start < previous_end;
+    note(tally, WHICH_START_AT_END, number == 15 && start == end);
+    note(tally, WHICH_START_OVER, number == 15 && start == end + 1);
+    note(tally, WHICH_START_WIDE, number == 15 && start > INT32_MAX && !past);
+    note(tally, WHICH_END_OVER, number == 16 && end == task->w + 1);
+    note(tally, WHICH_END_WIDE, number == 16 && end > INT32_MAX);
+    note(tally, WHICH_EARLY_BY_ONE, number == 17 && start + 1 == previous_end);
+    note(tally, WHICH_15_16, number == 15 && past);
+    note(tally, WHICH_15_17, number == 15 && early);
+    note(tally, WHICH_16_17, number == 16 && early);
+    note(tally, WHICH_ONLY, task->count == 1);
+    note(tally, WHICH_64TH, place + 1 == SLOTS_MAX);
+    note(tally, WHICH_INSIDE, task->first > 0);
+}
+
+static void add_which(struct tally *tally, const struct input *input, uint64_t result)
+{
+    uint32_t number = (uint32_t)(result >> 32), place = (uint32_t)result;
+    if (number == 1) {
+        add_refused_lengths(tally, input);
+        return;
+    }
+    struct task task = task_of_bytes(input->task);
+    if (number == 0) {
+        add_good_table(tally, &task, input);
+    } else if (number < ABOUT_SLOT) {
+        add_refused_table(tally, &task, input, number);
+    } else {
+        add_bad_slot(tally, &task, input, number, place);
+        add_later_slots(tally, &task, input, number, place);
+        note_place(tally, WHICH, input->task, input);
+    }
+}
+
 /* ---- all ---- */
 
 void tally_add(struct tally *tally, const struct input *input, const struct expected *expected)
@@ -363,6 +521,8 @@ void tally_add(struct tally *tally, const struct input *input, const struct expe
         add_answered_site(tally, input, expected);
     else if (input->kind == SITE)
         add_refused_site(tally, input, number);
+    else if (input->kind == WHICH)
+        add_which(tally, input, expected->result);
     else
         add_task(tally, input, expected, number);
 }
@@ -370,37 +530,62 @@ void tally_add(struct tally *tally, const struct input *input, const struct expe
 /* The numbers each call knows, by docs/RULES.md. */
 static bool knows(enum kind kind, uint32_t number)
 {
+    bool of_table = number == 3 || number == 4 || number >= 14, of_strips = number >= 6 && number <= 10;
     switch (kind) {
     case JUDGE:
-        return number <= 10;
+        return number <= 2 || of_table || of_strips;
     case COUNT:
-        return number <= 11 && number != 2;
+        return number <= 1 || of_table || of_strips || number == 11;
     case SITE:
         return number <= 2;
+    case WHICH:
+        return number <= 1 || of_table;
     default:
-        return number == 0 || (number >= 6 && number <= 10) || number >= 12;
+        return number == 0 || of_strips || number == 12 || number == 13;
     }
 }
 
-/* A count and whether it was to be met and wasn't; a dash for a number that isn't known there. */
+/* A count, and whether it shouldn't be 0; a dash for what can't be met there, and a mark where it was all the same. */
 static unsigned print_known(bool known, uint64_t met)
 {
     if (known)
         printf(" %10" PRIu64, met);
-    else
+    else if (met == 0)
         printf(" %10s", "-");
-    return known && met == 0;
+    else
+        printf(" %9" PRIu64 "!", met);
+    return known == (met == 0);
 }
 
 static unsigned print_numbers(const struct tally *tally)
 {
     unsigned never = 0;
-    printf("%-8s %10s %10s %10s %10s %10s\n", "refusal", "judge", "count", "grant", "site", "in a site");
+    printf("%-8s %10s %10s %10s %10s %10s %10s\n", "refusal", "judge", "count", "grant", "site", "which slot",
+           "in a site");
     for (uint32_t number = 0; number < NUMBERS; number++) {
         printf("%-8" PRIu32, number);
         for (enum kind kind = JUDGE; kind < KINDS; kind++)
             never += print_known(knows(kind, number), tally->numbers[kind][number]);
         never += print_known(knows(JUDGE, number) && number != 1 && number != 2, tally->answers[number]);
+        printf("\n");
+    }
+    return never;
+}
+
+/* The first bad slot by its number and place. Nothing is before a task's first slot, so 17 isn't given there. */
+static unsigned print_places(const struct tally *tally)
+{
+    static const char *const names[SLOT_PLACES] = {"first", "a middle one", "last"};
+    unsigned never = 0;
+    printf("%-15s %10s %10s %10s %10s\n", "slot", "judge", "count", "in a site", "which slot");
+    for (uint32_t row = 0; row < SLOT_NUMBERS * SLOT_PLACES; row++) {
+        uint32_t number = row / SLOT_PLACES, place = row % SLOT_PLACES;
+        bool known = number + ABOUT_SLOT != 17 || place != FIRST_PLACE;
+        printf("%" PRIu32 " %-12s", number + ABOUT_SLOT, names[place]);
+        never += print_known(known, tally->places[JUDGE][number][place]);
+        never += print_known(known, tally->places[COUNT][number][place]);
+        never += print_known(known, tally->places[SITE][number][place]);
+        never += print_known(known, tally->places[WHICH][number][place]);
         printf("\n");
     }
     return never;
@@ -431,7 +616,7 @@ unsigned tally_print(const struct tally *tally)
 #define CLASS_TEXT(id, text) text,
     static const char *const texts[] = {CLASSES(CLASS_TEXT)};
 #undef CLASS_TEXT
-    unsigned never = print_numbers(tally) + print_edges(tally);
+    unsigned never = print_numbers(tally) + print_places(tally) + print_edges(tally);
     for (unsigned i = 0; i < CLASS_COUNT; i++) {
         printf("%10" PRIu64 "  %s%s\n", tally->met[i], texts[i], tally->met[i] == 0 ? "  NEVER MET" : "");
         never += tally->met[i] == 0;

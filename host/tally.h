@@ -4,7 +4,11 @@
 
 #include "inputs.h"
 
-enum { NUMBERS = 14 }; /* refusals 1 to 13, and 0 */
+enum { NUMBERS = 18 }; /* refusals 1 to 17, and 0; no call gives 5 */
+
+/* Refusals 15 to 17 are about one slot, and it is the first bad one: a task's first, its last, or one between. */
+enum { ABOUT_SLOT = 15, SLOT_NUMBERS = 3 };
+enum slot_place { FIRST_PLACE, MIDDLE_PLACE, LAST_PLACE, SLOT_PLACES };
 
 /* What should come out, by definition. */
 struct expected {
@@ -58,9 +62,10 @@ struct expected {
     X(SUM_WIDE, "refused 3: first + count above 65,535 whose low 16 bits would do")                                    \
     X(ONES, "refused 3: a task of all ones")                                                                           \
     X(PAST_WHEEL, "refused 4: w 16,385")                                                                               \
-    X(COUNT_65, "refused 5: 65 slots, of which 64 would do")                                                           \
-    X(COUNT_WIDE, "refused 5: count 65,535 with that many records")                                                    \
+    X(COUNT_65, "refused 14: 65 slots, of which 64 would do")                                                          \
+    X(COUNT_WIDE, "refused 14: count 65,535 with that many records")                                                   \
     X(ORDER_4_6, "refused 4 before 6: w and e are both bad")                                                           \
+    X(ORDER_14_6, "refused 14 to 17 before 6: the slots and e are both bad")                                           \
     X(PAST_NEED, "refused 6: e 1,000,001")                                                                             \
     X(PAST_PERIOD, "refused 7: h 1,000,001")                                                                           \
     X(PAST_DEADLINE, "refused 8: D one above h")                                                                       \
@@ -122,7 +127,54 @@ struct expected {
     X(SITE_ORDER_1_2, "site refused 1 before 2: no room for the whole records, either")                                \
     X(SITE_BYTE_SHORT, "site refused 2: a reply one byte short")                                                       \
     X(SITE_ANSWER_SHORT, "site refused 2: room for all answers but one")                                               \
-    X(SITE_REPLY_EMPTY, "site refused 2: a reply of 0 bytes")
+    X(SITE_REPLY_EMPTY, "site refused 2: a reply of 0 bytes")                                                          \
+    X(WHICH_NONE, "which slot, good: no slots")                                                                        \
+    X(WHICH_NULL, "which slot, good: NULL for slots")                                                                  \
+    X(WHICH_64, "which slot, good: 64 slots")                                                                          \
+    X(WHICH_TOUCHING, "which slot, good: a start at the end before it")                                                \
+    X(WHICH_AT_WHEEL, "which slot, good: an end at w")                                                                 \
+    X(WHICH_LARGEST, "which slot, good: an end at w 16,384")                                                           \
+    X(WHICH_BEFORE, "which slot, good: the record before the task's first would fit and clash with it")                \
+    X(WHICH_BEHIND, "which slot, good: a bad record behind the task's last")                                           \
+    X(WHICH_BAD_NEED, "which slot, good: e is bad")                                                                    \
+    X(WHICH_BAD_PERIOD, "which slot, good: h is bad")                                                                  \
+    X(WHICH_BAD_DEADLINE, "which slot, good: D is bad")                                                                \
+    X(WHICH_BAD_STRIPS, "which slot, good: k is bad")                                                                  \
+    X(WHICH_BAD_PAINTED, "which slot, good: m is bad")                                                                 \
+    X(WHICH_EMPTY, "which slot refused 1: a task of 0 bytes")                                                          \
+    X(WHICH_31, "which slot refused 1: a task of 31 bytes")                                                            \
+    X(WHICH_33, "which slot refused 1: a task of 33 bytes")                                                            \
+    X(WHICH_SLOTS_ODD, "which slot refused 1: slots not a multiple of 8")                                              \
+    X(WHICH_NO_RECORDS, "which slot refused 3: no slot records at all")                                                \
+    X(WHICH_ONE_BEYOND, "which slot refused 3: first + count one over the end")                                        \
+    X(WHICH_SUM_WIDE, "which slot refused 3: first + count above 65,535 whose low 16 bits would do")                   \
+    X(WHICH_3_4, "which slot refused 3 before 4: w is bad as well")                                                    \
+    X(WHICH_3_14, "which slot refused 3 before 14: more than 64 slots as well")                                        \
+    X(WHICH_W_0, "which slot refused 4: w 0")                                                                          \
+    X(WHICH_W_16385, "which slot refused 4: w 16,385")                                                                 \
+    X(WHICH_W_WIDE, "which slot refused 4: w 2^32 - 1")                                                                \
+    X(WHICH_4_14, "which slot refused 4 before 14: more than 64 slots as well")                                        \
+    X(WHICH_4_15, "which slot refused 4 before 15: a start isn't below its end, either")                               \
+    X(WHICH_65, "which slot refused 14: 65 slots, of which 64 would do")                                               \
+    X(WHICH_LOW_BYTE, "which slot refused 14: a count above 255 whose low byte would do")                              \
+    X(WHICH_COUNT_WIDE, "which slot refused 14: count 65,535 with that many records")                                  \
+    X(WHICH_14_FIRST, "which slot refused 14: the first slot is bad as well")                                          \
+    X(WHICH_14_LATER, "which slot refused 14: a later slot is bad as well")                                            \
+    X(WHICH_START_AT_END, "which slot refused 15: start equal to end")                                                 \
+    X(WHICH_START_OVER, "which slot refused 15: start one above end")                                                  \
+    X(WHICH_START_WIDE, "which slot refused 15: a start of 2^31 or more, an end inside the wheel")                     \
+    X(WHICH_END_OVER, "which slot refused 16: an end at w + 1")                                                        \
+    X(WHICH_END_WIDE, "which slot refused 16: an end of 2^31 or more")                                                 \
+    X(WHICH_EARLY_BY_ONE, "which slot refused 17: a start one below the end before it")                                \
+    X(WHICH_15_16, "which slot refused 15 before 16: both of one slot")                                                \
+    X(WHICH_15_17, "which slot refused 15 before 17: both of one slot")                                                \
+    X(WHICH_16_17, "which slot refused 16 before 17: both of one slot")                                                \
+    X(WHICH_ONLY, "which slot refused 15 to 17: the task's only slot")                                                 \
+    X(WHICH_64TH, "which slot refused 15 to 17: the last of 64 slots")                                                 \
+    X(WHICH_INSIDE, "which slot refused 15 to 17: first above 0")                                                      \
+    X(WHICH_LOWER_LATER, "which slot refused 16 or 17: a later slot has a lower number")                               \
+    X(WHICH_HIGHER_LATER, "which slot refused 15 or 16: a later slot has a higher number")                             \
+    X(WHICH_SAME_LATER, "which slot refused 15 to 17: a later slot has the same number")
 
 #define CLASS_ID(id, text) id,
 enum input_class { CLASSES(CLASS_ID) CLASS_COUNT };
@@ -131,13 +183,14 @@ enum input_class { CLASSES(CLASS_ID) CLASS_COUNT };
 struct tally {
     uint64_t numbers[KINDS][NUMBERS];
     uint64_t answers[NUMBERS]; /* the numbers in the answers of sites */
+    uint64_t places[KINDS][SLOT_NUMBERS][SLOT_PLACES]; /* a site's records count as its own */
     uint64_t edges[WHEEL_EDGES][EDGE_USES];
     uint64_t met[CLASS_COUNT];
 };
 
 /* Notes an input and what should come out of it. */
 void tally_add(struct tally *tally, const struct input *input, const struct expected *expected);
-/* Prints all counts; gives how many classes were never met. */
+/* Prints all counts; gives how many classes were never met, or can't be met and were. */
 unsigned tally_print(const struct tally *tally);
 
 #endif

@@ -9,14 +9,16 @@
  * arrival; with less it is dropped. The judge answers, exactly and for every
  * offset of the first strip, fractions of a tick included:
  *
- *   fiddlequill_judge   how many of k strips drop at worst, from which offset,
- *                       and whether at least m of k are always painted (firm)
- *   fiddlequill_site    the same for every task of a site, in one call
- *   fiddlequill_count   how many of k strips drop from one given offset
- *   fiddlequill_grant   how many free slots, taken in number order, make a
- *                       task firm; it marks them
+ *   fiddlequill_judge        how many of k strips drop at worst, from which
+ *                            offset, and whether at least m of k are always
+ *                            painted (firm)
+ *   fiddlequill_site         the same for every task of a site, in one call
+ *   fiddlequill_which_slot   which slot of a task is bad, and why
+ *   fiddlequill_count        how many of k strips drop from one given offset
+ *   fiddlequill_grant        how many free slots, taken in number order, make
+ *                            a task firm; it marks them
  *
- * All four calls fail in one way: they refuse with a number from 1 to 13 and
+ * All five calls fail in one way: they refuse with a number from 1 to 17 and
  * 0 stands for success. Every input gets an answer or a refusal; no content of
  * a buffer is undefined behaviour. What the caller must provide is memory: each
  * pointer has as many readable (reply, marks: writable) bytes as its length
@@ -66,20 +68,24 @@ extern "C" {
 
 /* Where several apply, the first in the order listed at the function counts. */
 enum fiddlequill_refusal {
-    FIDDLEQUILL_OK = 0,             /* not refused */
-    FIDDLEQUILL_BAD_LENGTH = 1,     /* not one task record (a site: whole ones), or slots that aren't whole records */
-    FIDDLEQUILL_SHORT_REPLY = 2,    /* no room for an answer record (a site: for one each) */
-    FIDDLEQUILL_BEYOND_SLOTS = 3,   /* first + count goes beyond the last slot record */
-    FIDDLEQUILL_BAD_WHEEL = 4,      /* w isn't from 1 to 16,384 */
-    FIDDLEQUILL_BAD_SLOTS = 5,      /* more than 64 slots, or one that doesn't fit (see the slot record) */
-    FIDDLEQUILL_BAD_NEED = 6,       /* e isn't from 1 to 1,000,000 */
-    FIDDLEQUILL_BAD_PERIOD = 7,     /* h isn't from 1 to 1,000,000 */
-    FIDDLEQUILL_BAD_DEADLINE = 8,   /* D isn't from 1 to h */
-    FIDDLEQUILL_BAD_STRIPS = 9,     /* k isn't from 1 to 1,024 */
-    FIDDLEQUILL_BAD_PAINTED = 10,   /* m isn't from 0 to k */
-    FIDDLEQUILL_BEYOND_WHEEL = 11,  /* the offset isn't below 2w half ticks */
-    FIDDLEQUILL_BAD_GRANT = 12,     /* N, v, N * v or a mark is bad (see fiddlequill_grant) */
-    FIDDLEQUILL_NEVER_FIRM = 13     /* no set of the free slots makes the task firm */
+    FIDDLEQUILL_OK = 0,               /* not refused */
+    FIDDLEQUILL_BAD_LENGTH = 1,       /* not one task record (a site: whole ones), or slots that aren't whole records */
+    FIDDLEQUILL_SHORT_REPLY = 2,      /* no room for an answer record (a site: for one each) */
+    FIDDLEQUILL_BEYOND_SLOTS = 3,     /* first + count goes beyond the last slot record */
+    FIDDLEQUILL_BAD_WHEEL = 4,        /* w isn't from 1 to 16,384 */
+                                      /* 5 is given no more: 14 to 17 say what it said */
+    FIDDLEQUILL_BAD_NEED = 6,         /* e isn't from 1 to 1,000,000 */
+    FIDDLEQUILL_BAD_PERIOD = 7,       /* h isn't from 1 to 1,000,000 */
+    FIDDLEQUILL_BAD_DEADLINE = 8,     /* D isn't from 1 to h */
+    FIDDLEQUILL_BAD_STRIPS = 9,       /* k isn't from 1 to 1,024 */
+    FIDDLEQUILL_BAD_PAINTED = 10,     /* m isn't from 0 to k */
+    FIDDLEQUILL_BEYOND_WHEEL = 11,    /* the offset isn't below 2w half ticks */
+    FIDDLEQUILL_BAD_GRANT = 12,       /* N, v, N * v or a mark is bad (see fiddlequill_grant) */
+    FIDDLEQUILL_NEVER_FIRM = 13,      /* no set of the free slots makes the task firm */
+    FIDDLEQUILL_MANY_SLOTS = 14,      /* more than 64 slots */
+    FIDDLEQUILL_EMPTY_SLOT = 15,      /* a slot's start isn't below its end */
+    FIDDLEQUILL_SLOT_PAST_WHEEL = 16, /* a slot's end is above w */
+    FIDDLEQUILL_EARLY_SLOT = 17       /* a slot's start is below the end of the task's slot before it */
 };
 
 /* ---- records: no header, unsigned, little endian, no padding ---- */
@@ -125,7 +131,8 @@ enum fiddlequill_refusal {
  *
  * Refusals in checking order, and what each writes:
  *   1, 2                       nothing
- *   3, 4, 5, 6, 7, 8, 9, 10    reply[0..15]: id, the number, zeros
+ *   3, 4, 14, then slot by slot 15, 16, 17, then 6, 7, 8, 9, 10
+ *                              reply[0..15]: id, the number, zeros
  *   0                          reply[0..15]: the whole answer
  * Never written: reply[16] and beyond, task, slots.
  *
@@ -174,13 +181,49 @@ uint32_t fiddlequill_site(const uint8_t *tasks, size_t tasks_len,
                           uint8_t *reply, size_t reply_len);
 
 /*
+ * Says which slot of a task is bad, and why. The task's other numbers (e, D, h,
+ * m and k) aren't looked at. Gives the refusal number and a place, packed in
+ * one number: take it apart with fiddlequill_number and fiddlequill_value.
+ *
+ *   task, task_len     one task record
+ *   slots, slots_len   the slot records that first and count point into
+ *
+ * Refusals in checking order, and the place beside each:
+ *   1, 3, 4, 14                   0
+ *   slot by slot 15, 16, 17       the first bad slot's, counted from 0 at the
+ *                                 task's first: it is slot record first + place
+ *   0                             0: the table is good
+ * The number tells whether a place is meant (fiddlequill_about_slot): only
+ * beside 15, 16 and 17 is place 0 the task's first slot.
+ * Never written: anything.
+ *
+ * Judging or counting the same task and slots gives the same number whenever it
+ * gives 1, 3, 4 or 14 to 17, and gives none of these when this call gives 0
+ * (judging gives 2 first when the reply is too short).
+ *
+ * To tell a supplier:
+ *
+ *   uint64_t result = fiddlequill_which_slot(task, FIDDLEQUILL_TASK_BYTES,
+ *                                            slots, slots_len);
+ *   uint32_t number = fiddlequill_number(result);
+ *   if (fiddlequill_about_slot(number))
+ *       printf("slot %" PRIu32 " of the task: %s\n", fiddlequill_value(result),
+ *              fiddlequill_meaning(number));
+ *   else if (number != FIDDLEQUILL_OK)
+ *       printf("the table: %s\n", fiddlequill_meaning(number));
+ */
+FIDDLEQUILL_CHECK
+uint64_t fiddlequill_which_slot(const uint8_t *task, size_t task_len,
+                                const uint8_t *slots, size_t slots_len);
+
+/*
  * Counts the dropped strips when the first one arrives at `offset`, in half
  * ticks. Gives the refusal number and the count, 0 to k, packed in one number:
  * take it apart with fiddlequill_number and fiddlequill_value.
  *
- * Refusals in checking order: 1, 3, 4, 5, 6, 7, 8, 9, 10, 11; each comes with
- * count 0. (m plays no part in the count, but a bad one is refused all the
- * same.) All 64 bits of the offset are looked at.
+ * Refusals in checking order: 1, 3, 4, 14, then slot by slot 15, 16, 17, then 6,
+ * 7, 8, 9, 10, 11; each comes with count 0. (m plays no part in the count, but a
+ * bad one is refused all the same.) All 64 bits of the offset are looked at.
  * Never written: anything.
  *
  * Success is certain when judging the same task and slots with a reply of 16
@@ -227,10 +270,17 @@ static inline uint32_t fiddlequill_number(uint64_t packed)
     return (uint32_t)(packed >> 32);
 }
 
-/* The count or the granted slots in a packed result; 0 beside a refusal. */
+/* The count, the granted slots or the bad slot's place in a packed result; 0
+ * beside a refusal that is about no single slot. */
 static inline uint32_t fiddlequill_value(uint64_t packed)
 {
     return (uint32_t)(packed & 0xffffffffu);
+}
+
+/* Whether a refusal is about one slot: 1 for 15 to 17, else 0. */
+static inline int fiddlequill_about_slot(uint32_t number)
+{
+    return number >= FIDDLEQUILL_EMPTY_SLOT && number <= FIDDLEQUILL_EARLY_SLOT;
 }
 
 /* One line on a refusal number, for people. Never NULL. */
@@ -247,8 +297,6 @@ static inline const char *fiddlequill_meaning(uint32_t number)
         return "first + count goes beyond the last slot record";
     case FIDDLEQUILL_BAD_WHEEL:
         return "the wheel w isn't from 1 to 16,384 ticks";
-    case FIDDLEQUILL_BAD_SLOTS:
-        return "more than 64 slots, or a slot that is empty, leaves the wheel or overlaps the one before";
     case FIDDLEQUILL_BAD_NEED:
         return "the need e isn't from 1 to 1,000,000 ticks";
     case FIDDLEQUILL_BAD_PERIOD:
@@ -265,6 +313,14 @@ static inline const char *fiddlequill_meaning(uint32_t number)
         return "the grant has no slots or over 64, a wheel of 0 or over 16,384 ticks, or a mark other than 0 and 1";
     case FIDDLEQUILL_NEVER_FIRM:
         return "no choice of the free slots makes the task firm";
+    case FIDDLEQUILL_MANY_SLOTS:
+        return "the task has more than 64 slots";
+    case FIDDLEQUILL_EMPTY_SLOT:
+        return "a slot whose start isn't below its end";
+    case FIDDLEQUILL_SLOT_PAST_WHEEL:
+        return "a slot whose end is above the wheel w";
+    case FIDDLEQUILL_EARLY_SLOT:
+        return "a slot whose start is below the end of the slot before it";
     default:
         return "not a refusal number";
     }

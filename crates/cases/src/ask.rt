@@ -36,6 +36,16 @@ pub fn supply(name: &[u8], a: Asked, slots: &[u8], offset: u64) {
     }
 }
 
+// Which slot is bad, and what about it.
+pub fn which(name: &[u8], a: Asked, slots: &[u8]) {
+    let task = crate::build::task(a);
+    let t = which::which_slot(&task, slots);
+    crate::print::answer(b"which ", name, t.number);
+    crate::print::text(b", place ");
+    crate::print::number(t.place as u64);
+    crate::print::text(b"\n");
+}
+
 // The numbers of an answer record.
 fn record(reply: &[u8; REPLY]) {
     crate::print::text(b"; id ");

@@ -6,12 +6,14 @@ mod gifts;
 mod lookups;
 mod print;
 mod refusals;
+mod troubles;
 mod values;
 
 fn main() {
     values::all();
     bounds::all();
     refusals::all();
+    troubles::all();
     gifts::all();
     lookups::all();
 }

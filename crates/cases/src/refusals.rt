@@ -1,12 +1,13 @@
-// Every refusal from 1 to 11, by judging and by counting as far as each knows it.
+// Every refusal from 1 to 11 but 5, by judging and by counting as far as each knows it; 5 is given no more.
 use crate::ask;
 use crate::build;
 use crate::build::Asked;
 use records::TaskRecord;
 
-// Both questions about one bad task on one slot (0,8).
-fn both(name: &[u8], a: Asked) {
+// Every question about one bad task on one slot (0,8).
+fn each(name: &[u8], a: Asked) {
     let board = build::slot(0, 8);
+    ask::which(name, a, &board);
     ask::judge(name, a, &board);
     ask::count(name, a, &board, 0);
     ask::supply(name, a, &board, 0);
@@ -37,35 +38,35 @@ fn reply_size() {
 fn board() {
     let mut a = build::t();
     a.first = 1;
-    both(b"T with first 1", a);
+    each(b"T with first 1", a);
     let mut b = build::t();
     b.w = 0;
     b.e = 0;
-    both(b"T with w 0 and e 0", b);
+    each(b"T with w 0 and e 0", b);
     let mut c = build::t();
     c.w = 7;
-    both(b"T with w 7", c);
+    each(b"T with w 7", c);
 }
 
 fn task() {
     let mut a = build::t();
     a.e = 0;
-    both(b"T with e 0", a);
+    each(b"T with e 0", a);
     let mut b = build::t();
     b.h = 0;
-    both(b"T with h 0", b);
+    each(b"T with h 0", b);
     let mut c = build::t();
     c.d = 0;
-    both(b"T with D 0", c);
+    each(b"T with D 0", c);
 }
 
 fn firmness() {
     let mut a = build::t();
     a.k = 0;
-    both(b"T with k 0", a);
+    each(b"T with k 0", a);
     let mut b = build::t();
     b.m = 3;
-    both(b"T with m 3", b);
+    each(b"T with m 3", b);
 }
 
 fn offset() {

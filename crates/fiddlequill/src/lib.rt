@@ -4,7 +4,7 @@ ghost use Rattle.records.specs.Refusals.{pointRefusal};
 ghost use Rattle.judge.specs.Judge.{Judged};
 ghost use Rattle.judge.specs.Points.{countedAt};
 ghost use Rattle.site.specs.Site.{Sited};
-ghost use Rattle.fiddlequill.specs.Packed.{packed, PackedGrant};
+ghost use Rattle.fiddlequill.specs.Packed.{packed, PackedWhich, PackedGrant};
 
 // The refusal number times 2^32 plus the other number.
 fn pack(number: u32, value: u32) -> u64
@@ -27,6 +27,15 @@ pub extern "C" fn fiddlequill_site(tasks: &[u8], slots: &[u8], reply: &mut [u8])
     ensures { λ r. ⌜ Sited (now (tasks .entry)) (now (slots .entry)) (now (reply .entry)) r (now (reply .exit)) ⌝ }
 {
     site::site(tasks, slots, reply)
+}
+
+// Which slot of the task's table is bad, and what about it; the refusal number and the slot's place, packed.
+#[no_mangle]
+pub extern "C" fn fiddlequill_which_slot(task: &[u8], slots: &[u8]) -> u64
+    ensures { λ r. ⌜ PackedWhich (now (task .entry)) (now (slots .entry)) r ⌝ }
+{
+    let t = which::which_slot(task, slots);
+    pack(t.number, t.place)
 }
 
 // Counts the drops from a half tick; the refusal number and the count, packed.

@@ -1,5 +1,5 @@
-// The public questions of a task record and a slot buffer. Every byte string gets its reply: bad records are refused by number, in document
-// 01's order, and a refusal writes only what the paper names.
+// The public questions of a task record and a slot buffer. Every byte string gets its reply: bad records are refused by number, in the one
+// fixed order, and a refusal writes only what docs/RULES.md names.
 mod jobs;
 mod point;
 

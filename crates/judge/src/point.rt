@@ -9,7 +9,7 @@ pub enum Gate {
     Shut(u32),
 }
 
-// Refusals 1 and 3 to 11, in that order, or the job.
+// Refusal 1, those of the table and the task, and 11, in that order, or the job.
 pub fn enter(task: &[u8], slots: &[u8], offset: u64) -> Gate
     ensures { λ r. ⌜ r ≡ gated (now (task .entry)) (now (slots .entry)) offset ⌝ }
 {

@@ -27,6 +27,17 @@ unfolding _otherwise_
 otherwise-some zero b n = absurd (n refl)
 otherwise-some (suc a) b n = refl
 
+-- What holds of 0 and of the numbers that are written holds of the one that is given.
+pub when-all : (P : ℕ → Type 0) (n : ℕ) (t : Bool) → P 0 → P n → P (n when t)
+unfolding _when_
+when-all P n true none some = some
+when-all P n false none some = none
+
+pub otherwise-all : (P : ℕ → Type 0) (a b : ℕ) → P a → P b → P (a otherwise b)
+unfolding _otherwise_
+otherwise-all P zero b first next = next
+otherwise-all P (suc a) b first next = first
+
 -- The first part gives the number; or it gives none and the second does.
 pub at-first : (a b x : ℕ) → x ≡ a → (x ≡ 0 → ⊥) → x ≡ (a otherwise b)
 at-first a b x e n = e ∙ sym (otherwise-some a b (λ z. n (e ∙ z)))
@@ -75,8 +86,12 @@ unfolding ifNone
 either zero a b e = inl (refl, e)
 either (suc n) a b e = inr (λ z. omega arith, e)
 
+-- No test both passes and fails.
+pub clash : {A : Type 0} {b : Bool} → b ≡ true → b ≡ false → A
+clash e f = absurd (let z : _≡_ {A = ℕ} 0 1 = cc in omega arith)
+
 pub or-false : (a b : Bool) → (a || b) ≡ false → (a ≡ false) × (b ≡ false)
-or-false true b e = absurd (let z : _≡_ {A = ℕ} 0 1 = cc in omega arith)
+or-false true b e = clash refl e
 or-false false b e = (refl, e)
 
 -- What passes the bound.

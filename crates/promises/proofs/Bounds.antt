@@ -1,22 +1,20 @@
 -- Numbers small enough for the bytes they are written in: counts, offsets and refusals. Assumes nothing.
 use mathlib.Core.Path.{_≡_, refl, sym}
 use mathlib.Core.Logic.{⊎-elim}
-use mathlib.Core.Bool.{Bool, true, false}
 use mathlib.Core.List.{List}
-use Prim.Native.Nat.{ℕ, zero, suc, _+_, _*_, _/_, _%_, _≤_, _<_}
+use Prim.Native.Nat.{ℕ, _+_, _*_, _/_, _%_, _≤_, _<_}
 use native.Mathlib.Nat.{div-div-eq-div-mul}
 use native.Mathlib.Omega.{arith}
 use Rattle.rules.specs.Sums.{Subset}
 use Rattle.rules.specs.Supply.{Task, drops, count}
-use Rattle.rules.specs.Usable.{Slot}
 use Rattle.rules.specs.Worst.{Worst}
 use Rattle.rules.proofs.Sums.{number-le}
-use Rattle.limits.specs.Refusal.{_when_, _otherwise_}
-use Rattle.limits.specs.Limits.{mostTicks, mostStrips, wheelRefusal, taskRefusal}
-use Rattle.limits.proofs.Refusals.{either, when-true, when-false}
+use Rattle.limits.specs.Limits.{mostTicks, mostStrips}
+use Rattle.limits.proofs.Refusals.{either}
 use Rattle.records.specs.Records.{taskRecord, ticksOf, askedOf}
-use Rattle.records.specs.Refusals.{range, slotRefusal, firstBad, tableRefusal, slotsRefusal, boardRefusal, bodyRefusal, pointRefusal}
+use Rattle.records.specs.Refusals.{bodyRefusal, pointRefusal}
 use Rattle.records.specs.declared.TaskRecord.{TaskRecord}
+use Rattle.records.proofs.Numbers.{body-all}
 use Rattle.records.proofs.Accepts.{good-job}
 use Rattle.judge.specs.Points.{countedAt}
 use Rattle.judge.proofs.Gates.{open-inside}
@@ -80,30 +78,5 @@ unpacked-count task slots x r = unpacked _ _ r (omega (arith, counted-small task
 
 -- ---- refusals
 
-low-when : (n m : ℕ) (t : Bool) → n ≤ m → (n when t) ≤ m
-low-when n m true l = rw (when-true n true refl) l
-low-when n m false l = rw (when-false n false refl) (omega arith)
-
-low-otherwise : (a b m : ℕ) → a ≤ m → b ≤ m → (a otherwise b) ≤ m
-unfolding _otherwise_
-low-otherwise zero b m p q = q
-low-otherwise (suc a) b m p q = p
-
-low-bad : (w : ℕ) (slot : ℕ → Slot) (n : ℕ) → firstBad w slot n ≤ 10
-unfolding firstBad slotRefusal
-low-bad w slot zero = omega arith
-low-bad w slot (suc n) =
-    low-otherwise _ _ _ (low-bad w slot n)
-    (low-otherwise _ _ _ (low-when 5 _ _ (omega arith)) (low-otherwise _ _ _ (low-when 5 _ _ (omega arith)) (low-when 5 _ _ (omega arith))))
-
-pub body-low : (r : TaskRecord) (l : List ℕ) → bodyRefusal r l ≤ 10
-unfolding bodyRefusal boardRefusal range slotsRefusal tableRefusal wheelRefusal taskRefusal
-body-low r l =
-    low-otherwise _ _ _
-    (low-otherwise _ _ _ (low-when 3 _ _ (omega arith))
-    (low-otherwise _ _ _ (low-when 4 _ _ (omega arith))
-    (low-otherwise _ _ _ (low-when 5 _ _ (omega arith)) (low-bad _ _ _))))
-    (low-otherwise _ _ _ (low-when 6 _ _ (omega arith))
-    (low-otherwise _ _ _ (low-when 7 _ _ (omega arith))
-    (low-otherwise _ _ _ (low-when 8 _ _ (omega arith))
-    (low-otherwise _ _ _ (low-when 9 _ _ (omega arith)) (low-when 10 _ _ (omega arith))))))
+pub body-low : (r : TaskRecord) (l : List ℕ) → bodyRefusal r l ≤ 17
+body-low r l = body-all (λ n. n ≤ 17) (omega arith) (λ n low high. high) r l

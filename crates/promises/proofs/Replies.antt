@@ -93,7 +93,7 @@ module _ (task slots reply after : List ℕ) (known : le4 task 0 < 4294967296) w
       }
 
   wrote-refusal :
-      (n : ℕ) → 2 < n → n ≤ 10 → after ≡ over (answerBytes (taskRecord task .id) n 0 0 0) reply → Written task slots n after
+      (n : ℕ) → 2 < n → n < 65536 → after ≡ over (answerBytes (taskRecord task .id) n 0 0 0) reply → Written task slots n after
   wrote-refusal n more most bytes =
       record {
         firm = 0;

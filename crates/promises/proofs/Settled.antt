@@ -3,17 +3,22 @@ use mathlib.Core.Path.{_≡_, refl, sym, ap, ap₂, _∙_}
 use mathlib.Core.Logic.{_⊎_, _↔_, inl, inr, ⊎-elim}
 use mathlib.Core.Bool.{Bool, true, false}
 use mathlib.Core.List.{List, _++_}
-use Prim.Native.Nat.{ℕ, zero, suc, _<_}
+use Prim.Native.Nat.{ℕ, zero, suc, _≤_, _<_}
+use native.Mathlib.Nat.{le-antisymm}
 use native.Mathlib.Decide.{ℕ-discrete}
 use native.Mathlib.Omega.{arith}
 use lib.ListN.{length}
 use lib.Seq.{ext-getD}
 use Rattle.octets.specs.Octets.{over}
 use Rattle.rules.specs.Sums.{bit}
+use Rattle.rules.proofs.Sums.{le-or-lt}
 use Rattle.rules.proofs.Worst.{worst-unique}
 use Rattle.rules.proofs.Grants.{grant-unique}
+use Rattle.limits.proofs.Refusals.{clash}
 use Rattle.records.specs.Records.{taskRecord, answerBytes}
 use Rattle.records.specs.Lookup.{part}
+use Rattle.records.specs.Troubles.{aboutSlot, FirstAt, Placed}
+use Rattle.records.specs.declared.board.Trouble.{Trouble}
 use Rattle.judge.specs.Judge.{Judged, Answered}
 use Rattle.judge.specs.Points.{suppliedAt, droppedAt, countedAt}
 use Rattle.site.proofs.Laws as site
@@ -21,7 +26,7 @@ use Rattle.grants.specs.Grants.{GrantCall, Marked, grantRefusal}
 use Rattle.lines.specs.Lines.{lineOf}
 use Rattle.sheets.specs.Sheets.{Row, Rows, none, more, Sheet, bad, rest}
 use Rattle.fiddlequill.specs.Packed.{packed}
-use Rattle.promises.specs.Settled.{JudgeSettled, SiteSettled, PointSettled, PointsSettled, CountSettled, GrantSettled, PackedSettled, LookupSettled, PutSettled, SheetSettled}
+use Rattle.promises.specs.Settled.{JudgeSettled, SiteSettled, WhichSettled, PackedWhichSettled, PointSettled, PointsSettled, CountSettled, GrantSettled, PackedSettled, LookupSettled, PutSettled, SheetSettled}
 
 -- ---- judging
 
@@ -66,6 +71,36 @@ judge-settled task slots reply n n′ after after′ a b =
 
 pub site-settled : SiteSettled
 site-settled = site.site-settled judge-settled
+
+-- ---- which slot
+
+-- The first bad slot isn't behind another first bad one.
+first-le : (f : ℕ → ℕ) (n x i i′ : ℕ) → (x ≡ 0 → ⊥) → FirstAt f n x i → FirstAt f n x i′ → i ≤ i′
+first-le f n x i i′ bad a b = ⊎-elim (λ l. l) (λ (l : i′ < i). absurd (bad (sym (b .here) ∙ a .before i′ l))) (le-or-lt i i′)
+
+about-bad : (x : ℕ) → aboutSlot x ≡ true → x ≡ 0 → ⊥
+unfolding aboutSlot
+about-bad x about z = clash about (ap aboutSlot z)
+
+same-place : (x : ℕ) (f : ℕ → ℕ) (n : ℕ) (t t′ : Trouble) → Placed x f n t → Placed x f n t′ → t .place ≡ t′ .place
+same-place x f n t t′ a b = go (aboutSlot x) refl
+  where
+    go : (about : Bool) → aboutSlot x ≡ about → t .place ≡ t′ .place
+    go true e =
+        let bad = about-bad x e in
+        le-antisymm (first-le f n x _ _ bad (a .slot e) (b .slot e)) (first-le f n x _ _ bad (b .slot e) (a .slot e))
+    go false e = a .none e ∙ sym (b .none e)
+
+pub which-settled : WhichSettled
+which-settled task slots t t′ a b =
+    let number : t .number ≡ t′ .number = a .number ∙ sym (b .number) in
+    let place : t .place ≡ t′ .place = same-place _ _ _ t t′ a b in
+    λ i. record { number = number i; place = place i }
+
+pub packed-which-settled : PackedWhichSettled
+packed-which-settled task slots r r′ a b =
+    let same : a .trouble ≡ b .trouble = which-settled task slots _ _ (a .call) (b .call) in
+    a .result ∙ ap (λ (t : Trouble). packed (t .number) (t .place)) same ∙ sym (b .result)
 
 -- ---- the questions at a half tick
 

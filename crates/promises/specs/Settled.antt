@@ -5,13 +5,15 @@ use mathlib.Core.List.{List}
 use Prim.Native.Nat.{ℕ}
 use Rattle.records.specs.Refusals.{pointRefusal}
 use Rattle.records.specs.Lookup.{lookedUp}
+use Rattle.records.specs.declared.board.Trouble.{Trouble}
+use Rattle.which.specs.Which.{Which}
 use Rattle.judge.specs.Judge.{Judged}
 use Rattle.judge.specs.Points.{suppliedAt, droppedAt, countedAt}
 use Rattle.site.specs.Site.{Sited}
 use Rattle.grants.specs.Grants.{GrantCall}
 use Rattle.lines.specs.Lines.{Put}
 use Rattle.sheets.specs.Sheets.{Filled}
-use Rattle.fiddlequill.specs.Packed.{packed, PackedGrant}
+use Rattle.fiddlequill.specs.Packed.{packed, PackedWhich, PackedGrant}
 
 -- judge::judge, fiddlequill_judge: the number and the reply.
 abbrev pub JudgeSettled : Type 0
@@ -24,6 +26,14 @@ abbrev pub SiteSettled : Type 0
 SiteSettled =
     (tasks slots reply : List ℕ) (n n′ : ℕ) (after after′ : List ℕ)
     → Sited tasks slots reply n after → Sited tasks slots reply n′ after′ → (n ≡ n′) × (after ≡ after′)
+
+-- which::which_slot: the number and the place.
+abbrev pub WhichSettled : Type 0
+WhichSettled = (task slots : List ℕ) (t t′ : Trouble) → Which task slots t → Which task slots t′ → t ≡ t′
+
+-- fiddlequill_which_slot: the packed number.
+abbrev pub PackedWhichSettled : Type 0
+PackedWhichSettled = (task slots : List ℕ) (r r′ : ℕ) → PackedWhich task slots r → PackedWhich task slots r′ → r ≡ r′
 
 -- judge::supply, judge::drop_test, judge::count: the number and the value beside it.
 abbrev pub PointSettled : {A : Type 0} → (List ℕ → List ℕ → ℕ → A) → Type 0

@@ -5,9 +5,11 @@ ghost use lib.ListN.{length};
 ghost use Rattle.records.specs.Records.{replyBytes};
 ghost use Rattle.records.specs.Refusals.{pointRefusal};
 ghost use Rattle.records.specs.Lookup.{whole};
+ghost use Rattle.which.specs.Which.{Which};
 ghost use Rattle.judge.specs.Points.{countedAt};
 ghost use Rattle.grants.specs.Grants.{GrantCall};
 ghost use Rattle.promises.specs.Answers.{Told, SiteTold};
+use records::board::Trouble;
 
 // The number that judging gives, and the fields of the answer record.
 pub struct Answer {
@@ -63,6 +65,16 @@ pub fn site(tasks: &[u8], slots: &[u8], reply: &mut [u8], i: usize) -> Answer
         firm: octets::two(reply, at + 6),
         drops: octets::four(reply, at + 8),
         offset: octets::four(reply, at + 12),
+    }
+}
+
+pub fn which_slot(task: &[u8], slots: &[u8]) -> Trouble
+    ensures { λ t. ⌜ Which (now (task .entry)) (now (slots .entry)) t ⌝ }
+{
+    let parts = unpack(fiddlequill::fiddlequill_which_slot(task, slots));
+    Trouble {
+        number: parts.number,
+        place: parts.value,
     }
 }
 

@@ -5,6 +5,7 @@ use grants::Granted;
 use judge::Counted;
 use judge::Supplied;
 use judge::Tested;
+use records::board::Trouble;
 use sheets::MOST_TEXT;
 
 pub struct Numbers {
@@ -20,6 +21,11 @@ pub struct Packed {
 pub struct Places {
     pub one: usize,
     pub other: usize,
+}
+
+pub struct Troubles {
+    pub one: Trouble,
+    pub other: Trouble,
 }
 
 pub struct Supplies {
@@ -59,6 +65,15 @@ pub fn site(tasks: &[u8], slots: &[u8], one: &mut [u8], other: &mut [u8]) -> Num
     Numbers {
         one: site::site(tasks, slots, one),
         other: site::site(tasks, slots, other),
+    }
+}
+
+pub fn which_slot(task: &[u8], slots: &[u8]) -> Troubles
+    ensures { λ r. ⌜ r .one ≡ r .other ⌝ }
+{
+    Troubles {
+        one: which::which_slot(task, slots),
+        other: which::which_slot(task, slots),
     }
 }
 
@@ -140,6 +155,15 @@ pub fn fiddlequill_site(tasks: &[u8], slots: &[u8], one: &mut [u8], other: &mut 
     Numbers {
         one: fiddlequill::fiddlequill_site(tasks, slots, one),
         other: fiddlequill::fiddlequill_site(tasks, slots, other),
+    }
+}
+
+pub fn fiddlequill_which_slot(task: &[u8], slots: &[u8]) -> Packed
+    ensures { λ r. ⌜ r .one ≡ r .other ⌝ }
+{
+    Packed {
+        one: fiddlequill::fiddlequill_which_slot(task, slots),
+        other: fiddlequill::fiddlequill_which_slot(task, slots),
     }
 }
 

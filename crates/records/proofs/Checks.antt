@@ -1,64 +1,72 @@
 -- Each way out of checking a task record on a slot buffer: the wheel with its table, then the task. Assumes nothing.
 use mathlib.Core.Path.{_≡_, refl, sym, ap, _∙_}
 use mathlib.Core.Logic.{⊎-elim}
+use mathlib.Core.Bool.{false}
 use mathlib.Core.List.{List}
 use Prim.Native.Nat.{ℕ, _≤_, _<_}
 use native.Mathlib.Omega.{arith}
 use borrow.Author.Tests.{lt-ltb, le-ltb}
 use Rattle.rules.specs.Usable.{Slot}
-use Rattle.limits.specs.Limits.{mostSlots, madeWheel, madeTask}
+use Rattle.limits.specs.Limits.{mostSlots, wheelRefusal, madeWheel, madeTask}
 use Rattle.limits.specs.declared.Wheel.{Wheel}
 use Rattle.limits.specs.declared.Task.{Task}
 use Rattle.limits.specs.declared.WheelMade.the-variants as wheelMade
 use Rattle.limits.specs.declared.TaskMade.the-variants as taskMade
-use Rattle.limits.proofs.Refusals.{at-first, at-next, when-true, when-false, made-is, refused-is, either}
+use Rattle.limits.proofs.Refusals.{at-first, at-next, when-true, when-false, when-all, both-none, none-left, made-is, refused-is, either}
 use Rattle.limits.proofs.Made.{never, wheel-made, wheel-refused, task-made, task-refused}
 use Rattle.records.specs.Records.{slotAt}
-use Rattle.records.specs.Refusals.{range, firstBad, tableRefusal, slotsRefusal, boardRefusal, bodyRefusal, boarded, jobOf, checked}
+use Rattle.records.specs.Refusals.{range, troubleAt, firstBad, tableRefusal, slotsRefusal, boardRefusal, bodyRefusal, boarded, jobOf, checked}
+use Rattle.records.specs.Troubles.{aboutSlot, Placed, TroubleOf}
 use Rattle.records.specs.declared.TaskRecord.{TaskRecord}
+use Rattle.records.specs.declared.board.Trouble.{Trouble}
 use Rattle.records.specs.declared.Job.{Job}
 use Rattle.records.specs.declared.Checked.the-variants.{Accepted, Refused}
+use Rattle.records.proofs.Walk.{placed-as}
 
 -- ---- the table
 
-pub table-long : (w : ℕ) (slot : ℕ → Slot) (n : ℕ) → mostSlots < n → 5 ≡ tableRefusal w slot n
+pub table-long : (w : ℕ) (slot : ℕ → Slot) (n : ℕ) → mostSlots < n → 14 ≡ tableRefusal w slot n
 unfolding tableRefusal
-table-long w slot n l = at-first _ _ _ (sym (when-true 5 _ (lt-ltb mostSlots n l))) (λ z. omega arith)
+table-long w slot n l = at-first _ _ _ (sym (when-true 14 _ (lt-ltb mostSlots n l))) (λ z. omega arith)
 
-pub table-bad : (w : ℕ) (slot : ℕ → Slot) (n x : ℕ) → n ≤ mostSlots → x ≡ firstBad w slot n → x ≡ tableRefusal w slot n
+pub table-bad : (w : ℕ) (slot : ℕ → Slot) (n : ℕ) → n ≤ mostSlots → firstBad w slot n ≡ tableRefusal w slot n
 unfolding tableRefusal
-table-bad w slot n x l e = at-next _ _ _ (when-false 5 _ (le-ltb mostSlots n l)) e
+table-bad w slot n l = at-next _ _ _ (when-false 14 _ (le-ltb mostSlots n l)) refl
 
 module _ (r : TaskRecord) (l : List ℕ) where
-  -- ---- the wheel with its table
+  -- ---- the board: which part gives the number
 
-  pub board-far : (n : ℕ) → n ≡ range r l → (n ≡ 0 → ⊥) → wheelMade.Refused n ≡ boarded r l
-  unfolding boarded boardRefusal
-  board-far n e bad = refused-is wheelMade.Refused _ (at-first _ _ _ e bad) bad
+  pub board-far : (n : ℕ) → n ≡ range r l → (n ≡ 0 → ⊥) → (n ≡ boardRefusal r l) × (aboutSlot n ≡ false)
+  unfolding boardRefusal range aboutSlot
+  board-far n e bad = (at-first _ _ _ e bad, rw e (when-all (λ x. aboutSlot x ≡ false) 3 _ refl refl))
 
-  pub board-wheel : (n : ℕ) → range r l ≡ 0 → madeWheel (r .w) ≡ wheelMade.Refused n → wheelMade.Refused n ≡ boarded r l
-  unfolding boarded boardRefusal
+  pub board-wheel :
+      (n : ℕ) → range r l ≡ 0 → madeWheel (r .w) ≡ wheelMade.Refused n → (n ≡ boardRefusal r l) × (aboutSlot n ≡ false)
+  unfolding boardRefusal wheelRefusal aboutSlot
   board-wheel n far e =
       let p = wheel-refused (r .w) n e in
-      refused-is wheelMade.Refused _ (at-next _ _ _ far (at-first _ _ _ (p .0) (p .1))) (p .1)
+      (at-next _ _ _ far (at-first _ _ _ (p .0) (p .1)), rw (p .0) (when-all (λ x. aboutSlot x ≡ false) 4 _ refl refl))
 
-  module _
-      (n : ℕ) (x : Wheel) (far : range r l ≡ 0) (made : madeWheel (r .w) ≡ wheelMade.Made x)
-      (e : n ≡ tableRefusal (x .w) (slotAt l (r .first)) (r .count))
-    where
-      behind : n ≡ boardRefusal r l
-      unfolding boardRefusal slotsRefusal
-      behind =
-          let p = wheel-made (r .w) x made in
-          at-next _ _ _ far (at-next _ _ _ (p .0) (rw (p .1) at e))
+  pub board-table :
+      (x : Wheel) (t : Trouble) → range r l ≡ 0 → madeWheel (r .w) ≡ wheelMade.Made x
+      → Placed (tableRefusal (x .w) (slotAt l (r .first)) (r .count)) (troubleAt (x .w) (slotAt l (r .first))) (r .count) t
+      → TroubleOf r l (boardRefusal r l) t
+  unfolding boardRefusal slotsRefusal
+  board-table x t far made placed =
+      let p = wheel-made (r .w) x made in
+      placed-as t (rw (p .1) at placed) (at-next _ _ _ far (at-next _ _ _ (p .0) refl))
 
-      pub board-table : (n ≡ 0 → ⊥) → wheelMade.Refused n ≡ boarded r l
-      unfolding boarded
-      board-table bad = refused-is wheelMade.Refused _ behind bad
+  -- ---- the wheel behind its table
 
-      pub board-good : n ≡ 0 → wheelMade.Made x ≡ boarded r l
-      unfolding boarded
-      board-good z = ap wheelMade.Made (wheel-made (r .w) x made .1) ∙ made-is _ _ behind z
+  pub board-bad : (n : ℕ) → n ≡ boardRefusal r l → (n ≡ 0 → ⊥) → wheelMade.Refused n ≡ boarded r l
+  unfolding boarded
+  board-bad n e bad = refused-is wheelMade.Refused _ e bad
+
+  pub board-good : (n : ℕ) → n ≡ boardRefusal r l → n ≡ 0 → madeWheel (r .w) ≡ boarded r l
+  unfolding boarded boardRefusal madeWheel
+  board-good n e z =
+      let wheel = both-none _ _ (both-none _ _ (sym e ∙ z) .1) .0 in
+      none-left _ _ _ wheel ∙ made-is _ _ e z
 
   board-made : (x : Wheel) → boarded r l ≡ wheelMade.Made x → (boardRefusal r l ≡ 0) × (x ≡ record { w = r .w })
   unfolding boarded

@@ -1,4 +1,5 @@
 pub mod Parts
+pub mod Numbers
 pub mod Walk
 pub mod Checks
 pub mod Accepts

@@ -1,4 +1,5 @@
 pub mod Records
 pub mod Refusals
+pub mod Troubles
 pub mod Jobs
 pub mod Lookup

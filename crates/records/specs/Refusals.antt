@@ -1,15 +1,17 @@
--- docs/RULES.md, the table of refusals 1 to 11 and the one order in which they are checked. Definitions only.
+-- docs/RULES.md, the table of refusals 1 to 11 and 14 to 17, and the one order in which they are checked. Definitions only.
 --
 --     sizes, room, range         1, 2 and 3
---     slotRefusal w b s          what is wrong with slot s behind a slot that ends at b, 0 for nothing
+--     slotRefusal w b s          15 to 17: what is wrong with slot s behind a slot that ends at b, 0 for nothing
+--     troubleAt w slot i         the same of slot i of a table
 --     firstBad w slot n          the number of the first bad one of n slots, 0 for none
---     tableRefusal w slot n      5: too many slots, or the first bad one
+--     tableRefusal w slot n      14 for too many slots, or the first bad one's
 --     slotsRefusal r l           the same of the table that a task record selects
---     boardRefusal r l           3 to 5 of it
---     bodyRefusal r l            3 to 10 of a task record on a slot buffer, the first that applies
+--     boardRefusal r l           3, 4 and 14 to 17 of it
+--     bodyRefusal r l            all of a task record on a slot buffer: those of the board, then 6 to 10
 --     beyond w x                 11
---     judgeRefusal t l reply     1 to 10, as judging checks them
---     pointRefusal t l x         1, 3 to 11, as every question at a half tick x checks them
+--     judgeRefusal t l reply     as judging checks them: 1, 2, the body's
+--     pointRefusal t l x         as every question at a half tick x checks them: 1, the body's, 11
+--     whichRefusal t l           as the question which slot is bad checks them: 1, the board's
 --     boarded r l                the wheel of a task record whose table is good, or its refusal
 --     checked r l                what an accepted task record is turned into, or its refusal
 --
@@ -41,20 +43,23 @@ range r slots = 3 when ltb (length slots / slotBytes) (r .first + r .count)
 
 unfoldable pub slotRefusal : ℕ → ℕ → Slot → ℕ
 slotRefusal w before s =
-    5 when leb (s .end) (s .start)
-    otherwise 5 when ltb w (s .end)
-    otherwise 5 when ltb (s .start) before
+    15 when leb (s .end) (s .start)
+    otherwise 16 when ltb w (s .end)
+    otherwise 17 when ltb (s .start) before
 
 unfoldable pub endBefore : (ℕ → Slot) → ℕ → ℕ
 endBefore slot zero = 0
 endBefore slot (suc i) = slot i .end
 
+abbrev pub troubleAt : ℕ → (ℕ → Slot) → ℕ → ℕ
+troubleAt w slot i = slotRefusal w (endBefore slot i) (slot i)
+
 unfoldable pub firstBad : ℕ → (ℕ → Slot) → ℕ → ℕ
 firstBad w slot zero = 0
-firstBad w slot (suc i) = firstBad w slot i otherwise slotRefusal w (endBefore slot i) (slot i)
+firstBad w slot (suc i) = firstBad w slot i otherwise troubleAt w slot i
 
 unfoldable pub tableRefusal : ℕ → (ℕ → Slot) → ℕ → ℕ
-tableRefusal w slot n = 5 when ltb mostSlots n otherwise firstBad w slot n
+tableRefusal w slot n = 14 when ltb mostSlots n otherwise firstBad w slot n
 
 unfoldable pub slotsRefusal : TaskRecord → List ℕ → ℕ
 slotsRefusal r slots = tableRefusal (r .w) (slotAt slots (r .first)) (r .count)
@@ -77,6 +82,9 @@ pointRefusal task slots offset =
     sizes task slots
     otherwise bodyRefusal (taskRecord task) slots
     otherwise beyond (taskRecord task .w) offset
+
+unfoldable pub whichRefusal : List ℕ → List ℕ → ℕ
+whichRefusal task slots = sizes task slots otherwise boardRefusal (taskRecord task) slots
 
 unfoldable pub boarded : TaskRecord → List ℕ → WheelMade
 boarded r slots =

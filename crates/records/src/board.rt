@@ -1,15 +1,30 @@
-// The slot records that a task selects: reading one, and the refusals 3 to 5.
+// The slot records that a task selects: reading one, and the refusals 3, 4 and 14 to 17.
 ghost use mathlib.Core.Path.{_≡_};
 ghost use Prim.Native.Nat.{_+_, _*_, _/_, _≤_, _<_};
 ghost use lib.ListN.{length};
 ghost use Rattle.limits.specs.Refusal.{_when_};
+ghost use Rattle.limits.specs.Limits.{mostSlots};
 ghost use Rattle.records.specs.Records.{slotBytes, slotOf, slotAt};
-ghost use Rattle.records.specs.Refusals.{slotRefusal, firstBad, tableRefusal, boarded};
+ghost use Rattle.records.specs.Refusals.{slotRefusal, troubleAt, firstBad, tableRefusal, boardRefusal, boarded};
+ghost use Rattle.records.specs.Troubles.{Placed, TroubleOf};
 ghost use lib.Dec.{ltb};
 use crate::Slot;
 use crate::TaskRecord;
 use limits::Wheel;
 use limits::WheelMade;
+
+// What is wrong with a table: the refusal, and the place of the slot that it is about, counted from the task's first; 0 where it is about none.
+pub struct Trouble {
+    pub number: u32,
+    pub place: u32,
+}
+
+// A number that is about no single slot, none at all included.
+pub fn nowhere(number: u32) -> Trouble
+    ensures { λ t. ⌜ t ≡ record { number = number; place = 0 } ⌝ }
+{
+    Trouble { number, place: 0 }
+}
 
 // Slot record `first` + i.
 pub fn slot_at(slots: &[u8], first: usize, i: usize) -> Slot
@@ -27,17 +42,16 @@ pub fn slot_at(slots: &[u8], first: usize, i: usize) -> Slot
 fn slot_refusal(w: usize, before: usize, s: Slot) -> u32
     ensures { λ r. ⌜ r ≡ slotRefusal w before (slotOf s) ⌝ }
 {
-    let late = limits::when(5, s.start < before);
-    limits::first(
-        limits::when(5, s.end <= s.start),
-        limits::first(limits::when(5, w < s.end), late),
-    )
+    let empty = limits::when(15, s.end <= s.start);
+    let over = limits::when(16, w < s.end);
+    let late = limits::when(17, s.start < before);
+    limits::first(empty, limits::first(over, late))
 }
 
-// The number of the first bad slot, or 0.
-fn first_bad(slots: &[u8], first: usize, count: usize, w: usize) -> u32
-    requires { ⌜ first + count ≤ length (now slots) / slotBytes ⌝ }
-    ensures { λ r. ⌜ r ≡ firstBad w (slotAt (now (slots .entry)) first) count ⌝ }
+// The first bad slot, or 0.
+fn first_bad(slots: &[u8], first: usize, count: usize, w: usize) -> Trouble
+    requires { ⌜ (first + count ≤ length (now slots) / slotBytes) × (count ≤ mostSlots) ⌝ }
+    ensures { λ t. ⌜ Placed (firstBad w (slotAt (now (slots .entry)) first) count) (troubleAt w (slotAt (now (slots .entry)) first)) count t ⌝ }
 {
     let mut before = 0;
     let mut i = 0;
@@ -45,12 +59,15 @@ fn first_bad(slots: &[u8], first: usize, count: usize, w: usize) -> u32
         let s = slot_at(slots, first, i);
         let n = slot_refusal(w, before, s);
         if n != 0 {
-            return n;
+            return Trouble {
+                number: n,
+                place: i as u32,
+            };
         }
         before = s.end;
         i += 1;
     }
-    0
+    nowhere(0)
 }
 
 // Refusal 3, or 0: no sum is formed, so none wraps.
@@ -63,35 +80,38 @@ fn range(first: usize, count: usize, total: usize) -> u32
     limits::when(3, total - count < first)
 }
 
-// Refusal 5, or 0.
-fn table(slots: &[u8], first: usize, count: usize, w: usize) -> u32
+// Refusals 14 to 17, or 0.
+fn table(slots: &[u8], first: usize, count: usize, w: usize) -> Trouble
     requires { ⌜ first + count ≤ length (now slots) / slotBytes ⌝ }
-    ensures { λ r. ⌜ r ≡ tableRefusal w (slotAt (now (slots .entry)) first) count ⌝ }
+    ensures { λ t. ⌜ Placed (tableRefusal w (slotAt (now (slots .entry)) first) count) (troubleAt w (slotAt (now (slots .entry)) first)) count t ⌝ }
 {
     if Wheel::MOST_SLOTS < count {
-        return 5;
+        return nowhere(14);
     }
     first_bad(slots, first, count, w)
 }
 
-// The wheel behind its table, or the first of the refusals 3 to 5 that applies.
+// The first of the refusals 3, 4 and 14 to 17 that applies, and the slot that it is about.
+pub fn first_trouble(r: TaskRecord, slots: &[u8]) -> Trouble
+    ensures { λ t. ⌜ TroubleOf r (now (slots .entry)) (boardRefusal r (now (slots .entry))) t ⌝ }
+{
+    let far = range(r.first, r.count, slots.len() / Slot::BYTES);
+    if far != 0 {
+        return nowhere(far);
+    }
+    match Wheel::new(r.w) {
+        WheelMade::Refused(bad) => nowhere(bad),
+        WheelMade::Made(wheel) => table(slots, r.first, r.count, wheel.w),
+    }
+}
+
+// The wheel behind its table, or the number of its trouble.
 pub fn wheel(r: TaskRecord, slots: &[u8]) -> WheelMade
     ensures { λ a. ⌜ a ≡ boarded r (now (slots .entry)) ⌝ }
 {
-    let first = r.first;
-    let count = r.count;
-    let far = range(first, count, slots.len() / Slot::BYTES);
-    if far != 0 {
-        return WheelMade::Refused(far);
+    let t = first_trouble(r, slots);
+    if t.number != 0 {
+        return WheelMade::Refused(t.number);
     }
-    match Wheel::new(r.w) {
-        WheelMade::Refused(bad) => WheelMade::Refused(bad),
-        WheelMade::Made(wheel) => {
-            let n = table(slots, first, count, wheel.w);
-            if n != 0 {
-                return WheelMade::Refused(n);
-            }
-            WheelMade::Made(wheel)
-        }
-    }
+    Wheel::new(r.w)
 }

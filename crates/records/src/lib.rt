@@ -82,7 +82,7 @@ pub fn read(task: &[u8]) -> TaskRecord
     }
 }
 
-// The accepted job, or the first of the refusals 3 to 10 that applies. The wheel and its table come before the task's own numbers.
+// The accepted job, or the first refusal that applies: those of the wheel and its table come before those of the task's own numbers.
 pub fn check(r: TaskRecord, slots: &[u8]) -> Checked
     ensures { λ a. ⌜ a ≡ checked r (now (slots .entry)) ⌝ }
 {

@@ -37,9 +37,9 @@ good-of w b s e =
     let p = both-none _ _ e in
     let q = both-none _ _ (p .1) in
     record {
-      long = leb-false _ _ (when-none 5 _ (zero-lt-suc 4) (p .0));
-      inside = ltb-false _ _ (when-none 5 _ (zero-lt-suc 4) (q .0));
-      after = ltb-false _ _ (when-none 5 _ (zero-lt-suc 4) (q .1));
+      long = leb-false _ _ (when-none 15 _ (zero-lt-suc 14) (p .0));
+      inside = ltb-false _ _ (when-none 16 _ (zero-lt-suc 15) (q .0));
+      after = ltb-false _ _ (when-none 17 _ (zero-lt-suc 16) (q .1));
     }
 
 -- Every slot of a table that isn't refused is good.

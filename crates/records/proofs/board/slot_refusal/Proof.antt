@@ -8,10 +8,10 @@ use Rattle.records.proofs.board.slot_refusal.Tie as tie
 returns : tie.Need-returns
 unfolding slotRefusal
 returns c =
-    let inside = c .before .before in
-    let long = inside .before .before in
-    let late = long .before .before in
-    otherwise-same (c .first2 .ensures) (long .when2 .ensures) (otherwise-same (c .before .first .ensures) (inside .when3 .ensures) (late .when .ensures))
+    let late = c .before .before in
+    let over = late .before .before in
+    let empty = over .before .before in
+    otherwise-same (c .first2 .ensures) (empty .when .ensures) (otherwise-same (c .before .first .ensures) (over .when2 .ensures) (late .when3 .ensures))
 
 pub slot-refusal-spec : {M : Type 1} → statement M
 slot-refusal-spec =

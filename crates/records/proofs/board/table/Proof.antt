@@ -1,15 +1,19 @@
 -- `records::board::table` meets its contract: one law for each way out (proofs/Checks.antt). Assumes nothing.
+use mathlib.Core.Path.{refl}
+use Rattle.records.specs.Troubles.{aboutSlot}
 use Rattle.records.proofs.Checks.{table-long, table-bad}
+use Rattle.records.proofs.Walk.{placed-nowhere, placed-as}
 use borrow.Author.Needs.{needs}
 use Rattle.records.proofs.board.table.Statement.{statement}
 use Rattle.records.proofs.board.table.Tie as tie
 
 returns : tie.Need-returns
-returns c = table-long _ _ _ (c .if1 .taken)
+unfolding aboutSlot
+returns c = placed-nowhere _ _ (c .nowhere .ensures) (table-long _ _ _ (c .before .if1 .taken)) refl
 
 returns-2 : tie.Need-returns-2
-returns-2 c = table-bad _ _ _ _ (c .before .if1 .left) (c .first-bad .ensures)
+returns-2 c = placed-as _ (c .first-bad .ensures) (table-bad _ _ _ (c .before .if1 .left))
 
 pub table-spec : {M : Type 1} → statement M
 table-spec =
-    tie.close (tie.spec returns (λ c κs. search needs) returns-2)
+    tie.close (tie.spec (λ c κs. search needs) returns (λ c κs. search needs) returns-2)
