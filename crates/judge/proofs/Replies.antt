@@ -10,7 +10,7 @@ use Rattle.rules.specs.Sums.{bit}
 use Rattle.rules.specs.Worst.{Worst, firmTest}
 use Rattle.rules.proofs.Worst.{firm-agrees}
 use Rattle.octets.specs.Octets.{over}
-use Rattle.limits.specs.Limits.{asked, mostTicks}
+use Rattle.limits.specs.Limits.{asked}
 use Rattle.limits.specs.declared.Task.{Task}
 use Rattle.limits.proofs.Refusals.{at-first, at-next, when-true, when-false}
 use Rattle.records.specs.Records.{replyBytes, taskRecord, boardOf, ticksOf, askedOf, answerBytes}
@@ -21,9 +21,8 @@ use Rattle.records.specs.declared.Checked.the-variants.{Accepted, Refused}
 use Rattle.records.proofs.Parts.{sizes-one}
 use Rattle.records.proofs.Checks.{checked-accepted, checked-refused}
 use Rattle.records.specs.Jobs.{jobTicks}
-use Rattle.room.specs.Room.{Lends}
 use Rattle.judge.specs.Judge.{Judged}
-use Rattle.records.proofs.Accepts.{good-accepted, body-high}
+use Rattle.records.proofs.Accepts.{body-high}
 
 -- ---- rule 7's bit
 
@@ -34,17 +33,6 @@ firm-yes t c l = sym (ap bit (le-leb c (t .k - t .m) l))
 pub firm-no : (t : Task) (c : ℕ) → t .k - t .m < c → 0 ≡ bit (firmTest (asked t) c)
 unfolding firmTest bit
 firm-no t c l = sym (ap bit (lt-leb c (t .k - t .m) l))
-
--- ---- what is lent
-
--- Arrays for every wheel that the record may be accepted with serve the accepted one.
-pub lent-accepted :
-    (slots : List ℕ) (r s : TaskRecord) (j : Job) {late map low spare here there : List ℕ} → r ≡ s → checked r slots ≡ Accepted j
-    → (s .w ≤ mostTicks → Lends (s .w) late map low spare here there) → Lends (j .wheel .w) late map low spare here there
-lent-accepted slots r s j e a lent =
-    let ours : j ≡ jobOf s = checked-accepted r slots j a .1 ∙ ap jobOf e in
-    let most : j .wheel .w ≤ mostTicks = good-accepted r slots j a .most in
-    rw ours (lent (rw ours at most))
 
 -- ---- the ways out
 

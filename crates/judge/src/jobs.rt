@@ -7,12 +7,12 @@ ghost use Rattle.rules.specs.Supply.{supply, dropped, count};
 ghost use Rattle.rules.specs.Worst.{Worst};
 ghost use Rattle.records.specs.Jobs.{Good, jobTicks};
 ghost use Rattle.runs.specs.Runs.{LaidIn};
-ghost use Rattle.room.specs.Room.{mostEdges, Lends};
+ghost use Rattle.room.specs.Room.{mostEdges};
 use records::Job;
 use room::Peak;
 
 // Bytes to runs.
-fn lay(slots: &[u8], job: Job, runs: &mut [u16]) -> usize
+pub fn lay(slots: &[u8], job: Job, runs: &mut [u16]) -> usize
     requires { ⌜ Good (now slots) job × (length (now runs) ≡ mostEdges) ⌝ }
     ensures { λ n. ⌜ LaidIn (now (runs .entry)) (now (runs .exit)) n (job .wheel .w) (jobTicks (now (slots .entry)) job) ⌝ }
 {
@@ -28,37 +28,6 @@ pub fn worst(slots: &[u8], job: Job, runs: &mut [u16]) -> Peak
     let wheel = job.wheel;
     let n = lay(slots, job, runs);
     room::worst(&runs[..n], wheel.w, job.task)
-}
-
-// The same in lent arrays.
-pub fn worst_in(
-    slots: &[u8],
-    job: Job,
-    runs: &mut [u16],
-    late: &mut [u16],
-    map: &mut [u8],
-    low: &mut [u8],
-    spare: &mut [u8],
-    here: &mut [u16],
-    there: &mut [u16],
-) -> Peak
-    requires { ⌜ Good (now slots) job × (length (now runs) ≡ mostEdges) ⌝ }
-    requires { ⌜ Lends (job .wheel .w) (now late) (now map) (now low) (now spare) (now here) (now there) ⌝ }
-    ensures { λ r. ⌜ Worst (job .wheel .w) (jobTicks (now (slots .entry)) job) (asked (job .task)) (r .drops) (r .offset) ⌝ }
-{
-    let wheel = job.wheel;
-    let n = lay(slots, job, runs);
-    room::worst_in(
-        &runs[..n],
-        wheel.w,
-        job.task,
-        late,
-        map,
-        low,
-        spare,
-        here,
-        there,
-    )
 }
 
 // The supply at half tick x, in half ticks.

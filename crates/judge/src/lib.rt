@@ -1,18 +1,17 @@
 // The public questions of a task record and a slot buffer. Every byte string gets its reply: bad records are refused by number, in the one
 // fixed order, and a refusal writes only what docs/RULES.md names.
-mod jobs;
+pub mod jobs;
 mod point;
 
 ghost use mathlib.Core.Path.{_≡_};
 ghost use Prim.Native.Nat.{_≤_};
 ghost use lib.ListN.{length};
-ghost use Rattle.limits.specs.Limits.{asked, mostTicks};
+ghost use Rattle.limits.specs.Limits.{asked};
 ghost use Rattle.octets.specs.Octets.{over};
 ghost use Rattle.rules.specs.Sums.{bit};
 ghost use Rattle.rules.specs.Worst.{firmTest};
-ghost use Rattle.records.specs.Records.{replyBytes, answerBytes, taskRecord};
-ghost use Rattle.records.specs.Refusals.{sizes, pointRefusal};
-ghost use Rattle.room.specs.Room.{mostEdges, Lends};
+ghost use Rattle.records.specs.Records.{replyBytes, answerBytes};
+ghost use Rattle.records.specs.Refusals.{pointRefusal};
 ghost use Rattle.judge.specs.Judge.{Judged};
 ghost use Rattle.judge.specs.Points.{suppliedAt, droppedAt, countedAt};
 use crate::point::Gate;
@@ -59,7 +58,7 @@ fn write(reply: &mut [u8], a: Answer)
 }
 
 // Writes a refusal, and gives its number.
-fn refuse(reply: &mut [u8], id: usize, bad: u32) -> u32
+pub fn refuse(reply: &mut [u8], id: usize, bad: u32) -> u32
     requires { ⌜ replyBytes ≤ length (now reply) ⌝ }
     ensures { λ r. ⌜ (r ≡ bad) × (now (reply .exit) ≡ over (answerBytes id bad 0 0 0) (now (reply .entry))) ⌝ }
 {
@@ -77,7 +76,7 @@ fn refuse(reply: &mut [u8], id: usize, bad: u32) -> u32
 }
 
 // Writes what was found for an accepted task.
-fn answer(reply: &mut [u8], id: usize, task: Task, p: Peak)
+pub fn answer(reply: &mut [u8], id: usize, task: Task, p: Peak)
     requires { ⌜ (replyBytes ≤ length (now reply)) × (task .m ≤ task .k) ⌝ }
     ensures { λ _. ⌜ now (reply .exit) ≡ over (answerBytes id 0 (bit (firmTest (asked task) (p .drops))) (p .drops) (p .offset)) (now (reply .entry)) ⌝ }
 {
@@ -113,34 +112,6 @@ pub fn judge(task: &[u8], slots: &[u8], reply: &mut [u8]) -> u32
             let mut runs = [0u16; MOST_EDGES];
             let p = jobs::worst(slots, job, &mut runs);
             answer(reply, id, job.task, p);
-            0
-        }
-    }
-}
-
-// Judges a whole record into room for its answer, in arrays that the caller lends in any state: for many records one after another.
-pub fn judge_in(
-    task: &[u8],
-    slots: &[u8],
-    reply: &mut [u8],
-    runs: &mut [u16],
-    late: &mut [u16],
-    map: &mut [u8],
-    low: &mut [u8],
-    spare: &mut [u8],
-    here: &mut [u16],
-    there: &mut [u16],
-) -> u32
-    requires { ⌜ (sizes (now task) (now slots) ≡ 0) × (replyBytes ≤ length (now reply)) × (length (now runs) ≡ mostEdges) ⌝ }
-    requires { ⌜ (taskRecord (now task) .w ≤ mostTicks → Lends (taskRecord (now task) .w) (now late) (now map) (now low) (now spare) (now here) (now there)) ⌝ }
-    ensures { λ r. ⌜ Judged (now (task .entry)) (now (slots .entry)) (now (reply .entry)) r (now (reply .exit)) ⌝ }
-{
-    let r = records::read(task);
-    match records::check(r, slots) {
-        Checked::Refused(bad) => refuse(reply, r.id, bad),
-        Checked::Accepted(job) => {
-            let p = jobs::worst_in(slots, job, runs, late, map, low, spare, here, there);
-            answer(reply, r.id, job.task, p);
             0
         }
     }

@@ -10,13 +10,29 @@ use lib.Seq.{drop-drop}
 use Rattle.octets.specs.Octets.{le4}
 use Rattle.limits.specs.Limits.{mostTicks}
 use Rattle.records.specs.Records.{taskBytes, replyBytes, taskRecord}
-use Rattle.records.specs.Refusals.{sizes}
+use Rattle.records.specs.Refusals.{sizes, jobOf, checked}
 use Rattle.records.specs.Lookup.{whole, part}
+use Rattle.records.specs.declared.TaskRecord.{TaskRecord}
+use Rattle.records.specs.declared.Job.{Job}
+use Rattle.records.specs.declared.Checked.the-variants.{Accepted}
 use Rattle.records.proofs.Parts.{sizes-good}
+use Rattle.records.proofs.Accepts.{good-accepted}
+use Rattle.records.proofs.Checks.{checked-accepted}
 use Rattle.room.specs.Room.{mostEdges, Lends}
 use Rattle.judge.specs.Judge.{Judged}
 use Rattle.walk.specs.Walk.{place, JudgedAt, Roomy, Fitting, Placed, Walked}
 use Rattle.walk.proofs.Places.{part-long, part-before, part-le4, put, put-long, put-there, put-before, put-behind}
+
+-- ---- what is lent
+
+-- Arrays for every wheel that the record may be accepted with serve the accepted one.
+pub lent-accepted :
+    (slots : List ℕ) (r s : TaskRecord) (j : Job) {late map low spare here there : List ℕ} → r ≡ s → checked r slots ≡ Accepted j
+    → (s .w ≤ mostTicks → Lends (s .w) late map low spare here there) → Lends (j .wheel .w) late map low spare here there
+lent-accepted slots r s j e a lent =
+    let ours : j ≡ jobOf s = checked-accepted r slots j a .1 ∙ ap jobOf e in
+    let most : j .wheel .w ≤ mostTicks = good-accepted r slots j a .most in
+    rw ours (lent (rw ours at most))
 
 -- ---- the largest wheel
 

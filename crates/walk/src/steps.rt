@@ -6,6 +6,7 @@ ghost use Rattle.limits.specs.Limits.{mostTicks};
 ghost use Rattle.records.specs.Lookup.{whole};
 ghost use Rattle.room.specs.Room.{mostEdges, Lends};
 ghost use Rattle.walk.specs.Walk.{Roomy, Fitting, Placed, Walked};
+use crate::lent;
 use limits::Wheel;
 use records::TaskRecord;
 use records::answer::Answer;
@@ -60,7 +61,7 @@ fn one(
     let to = from + TaskRecord::BYTES;
     let at = Answer::BYTES * i;
     let end = at + Answer::BYTES;
-    judge::judge_in(
+    lent::judge_in(
         &tasks[from..to],
         slots,
         &mut reply[at..end],

@@ -1,11 +1,11 @@
--- `judge::jobs::worst_in` meets its contract: the job's slots are laid out as runs, and what holds of every set of ticks that
+-- `walk::lent::worst_in` meets its contract: the job's slots are laid out as runs, and what holds of every set of ticks that
 -- they lay out holds of the job's. Assumes nothing.
 use mathlib.Core.Path.{sym}
 use lib.Seq.{length-take-le}
 use Rattle.room.proofs.Handed.{handed, found}
 use borrow.Author.Needs.{needs}
-use Rattle.judge.proofs.jobs.worst_in.Statement.{statement}
-use Rattle.judge.proofs.jobs.worst_in.Tie as tie
+use Rattle.walk.proofs.lent.worst_in.Statement.{statement}
+use Rattle.walk.proofs.lent.worst_in.Tie as tie
 
 slice-aggregate-worst-in : tie.Need-slice-aggregate-worst-in
 slice-aggregate-worst-in c = sym (length-take-le _ _ (c .before .before .before .lay .ensures .room))

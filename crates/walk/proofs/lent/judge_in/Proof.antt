@@ -1,12 +1,13 @@
--- `judge::judge_in` meets its contract by the laws of `judge::judge` (proofs/Replies.antt): a wheel that is accepted fits what is lent.
+-- `walk::lent::judge_in` meets its contract by the laws of `judge::judge` (judge's proofs/Replies.antt): a wheel that is accepted fits what is lent.
 -- Assumes nothing.
 use mathlib.Core.Path.{sym, _∙_}
 use Rattle.records.proofs.Parts.{sizes-long}
 use Rattle.records.proofs.Accepts.{good-accepted}
-use Rattle.judge.proofs.Replies.{reply-refused, lent-accepted, reply-answered}
+use Rattle.judge.proofs.Replies.{reply-refused, reply-answered}
+use Rattle.walk.proofs.Walks.{lent-accepted}
 use borrow.Author.Needs.{needs}
-use Rattle.judge.proofs.judge_in.Statement.{statement}
-use Rattle.judge.proofs.judge_in.Tie as tie
+use Rattle.walk.proofs.lent.judge_in.Statement.{statement}
+use Rattle.walk.proofs.lent.judge_in.Tie as tie
 
 abbrev start : (c : tie.After-read) → tie.Start
 start c = c .before .before .before .before .before .before .before .before .before .before .before
