@@ -1,7 +1,7 @@
 -- The laws of `when`, `otherwise` and `ifNone`, by which every refusal is proved to be the first that applies. Assumes nothing.
 use mathlib.Core.Path.{_≡_, refl, sym, ap, _∙_}
 use mathlib.Core.Logic.{_⊎_, inl, inr}
-use mathlib.Core.Bool.{Bool, true, false, _||_}
+use mathlib.Core.Bool.{Bool, true, false, not, _||_}
 use Prim.Native.Nat.{ℕ, zero, suc, _*_, _^_, _≤_, _<_}
 use native.Mathlib.Omega.{arith}
 use native.Mathlib.Nat.{mul-le-mul, le-of-eq}
@@ -93,6 +93,20 @@ clash e f = absurd (let z : _≡_ {A = ℕ} 0 1 = cc in omega arith)
 pub or-false : (a b : Bool) → (a || b) ≡ false → (a ≡ false) × (b ≡ false)
 or-false true b e = clash refl e
 or-false false b e = (refl, e)
+
+-- Two numbers that must both be right, tested one after the other.
+module _ (n a x b y : ℕ) where
+  pub first-wrong : (a ≡ x → ⊥) → n ≡ (n when (not (eqb a x) || not (eqb b y)))
+  unfolding _when_
+  first-wrong bad = sym (ap (λ c. n when (not c || not (eqb b y))) (ne-eqb a x bad))
+
+  pub next-wrong : a ≡ x → (b ≡ y → ⊥) → n ≡ (n when (not (eqb a x) || not (eqb b y)))
+  unfolding _when_
+  next-wrong e bad = sym (ap (λ c. n when (not c || not (eqb b y))) (eq-eqb a x e) ∙ ap (λ c. n when not c) (ne-eqb b y bad))
+
+  pub both-right : a ≡ x → b ≡ y → 0 ≡ (n when (not (eqb a x) || not (eqb b y)))
+  unfolding _when_
+  both-right e f = sym (ap (λ c. n when (not c || not (eqb b y))) (eq-eqb a x e) ∙ ap (λ c. n when not c) (eq-eqb b y f))
 
 -- What passes the bound.
 pub inside : (x most : ℕ) → outside x most ≡ false → (0 < x) × (x ≤ most)

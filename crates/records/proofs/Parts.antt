@@ -1,5 +1,5 @@
 -- Refusals 1 and 3, tested part by part. Assumes nothing.
-use mathlib.Core.Path.{_≡_, refl, sym, ap, _∙_}
+use mathlib.Core.Path.{_≡_, refl, sym, ap}
 use mathlib.Core.Bool.{Bool, true, false, not, _||_}
 use mathlib.Core.List.{List}
 use Prim.Native.Nat.{ℕ, _+_, _-_, _%_, _≤_, _<_}
@@ -7,28 +7,24 @@ use native.Mathlib.Nat.{zero-lt-suc}
 use native.Mathlib.Omega.{arith}
 use lib.Dec.{ltb, eqb}
 use lib.ListN.{length}
-use borrow.Author.Tests.{eq-eqb, ne-eqb, lt-ltb, eqb-true, not-false}
+use borrow.Author.Tests.{lt-ltb, eqb-true, not-false}
 use Rattle.limits.specs.Refusal.{_when_}
-use Rattle.limits.proofs.Refusals.{when-true, when-false, when-none, or-false}
+use Rattle.limits.proofs.Refusals.{when-true, when-false, when-none, or-false, first-wrong, next-wrong, both-right}
 use Rattle.rules.proofs.Step.{ltb-same}
 use Rattle.records.specs.Records.{taskBytes, slotBytes}
 use Rattle.records.specs.Refusals.{sizes}
 
 pub sizes-task : (t s : List ℕ) → (length t ≡ taskBytes → ⊥) → 1 ≡ sizes t s
-unfolding sizes _when_
-sizes-task t s n = sym (ap (λ b. 1 when (not b || not (eqb (length s % slotBytes) 0))) (ne-eqb (length t) taskBytes n))
+unfolding sizes
+sizes-task t s bad = first-wrong 1 (length t) taskBytes (length s % slotBytes) 0 bad
 
 pub sizes-slots : (t s : List ℕ) → length t ≡ taskBytes → (length s % slotBytes ≡ 0 → ⊥) → 1 ≡ sizes t s
-unfolding sizes _when_
-sizes-slots t s e n =
-    sym (ap (λ b. 1 when (not b || not (eqb (length s % slotBytes) 0))) (eq-eqb (length t) taskBytes e)
-    ∙ ap (λ b. 1 when not b) (ne-eqb (length s % slotBytes) 0 n))
+unfolding sizes
+sizes-slots t s e bad = next-wrong 1 (length t) taskBytes (length s % slotBytes) 0 e bad
 
 pub sizes-good : (t s : List ℕ) → length t ≡ taskBytes → length s % slotBytes ≡ 0 → 0 ≡ sizes t s
-unfolding sizes _when_
-sizes-good t s e f =
-    sym (ap (λ b. 1 when (not b || not (eqb (length s % slotBytes) 0))) (eq-eqb (length t) taskBytes e)
-    ∙ ap (λ b. 1 when not b) (eq-eqb (length s % slotBytes) 0 f))
+unfolding sizes
+sizes-good t s e f = both-right 1 (length t) taskBytes (length s % slotBytes) 0 e f
 
 pub range-over : (first count total : ℕ) → total < count → 3 ≡ (3 when ltb total (first + count))
 unfolding _when_

@@ -1,5 +1,5 @@
 -- Each way out of a site gives the number and the reply that docs/RULES.md names. Assumes nothing.
-use mathlib.Core.Path.{_≡_, refl, sym, ap, _∙_}
+use mathlib.Core.Path.{_≡_, refl, sym}
 use mathlib.Core.Logic.{_⊎_, inl, inr, ⊎-elim}
 use mathlib.Core.Bool.{Bool, true, false, not, _||_}
 use mathlib.Core.List.{List}
@@ -8,9 +8,9 @@ use native.Mathlib.Nat.{zero-lt-suc}
 use native.Mathlib.Omega.{arith}
 use lib.Dec.{eqb, ltb}
 use lib.ListN.{length}
-use borrow.Author.Tests.{eq-eqb, ne-eqb, lt-ltb, le-ltb, eqb-true, not-false, ltb-false}
+use borrow.Author.Tests.{lt-ltb, le-ltb, eqb-true, not-false, ltb-false}
 use Rattle.limits.specs.Refusal.{_when_, _otherwise_}
-use Rattle.limits.proofs.Refusals.{at-first, at-next, when-true, when-false, when-none, both-none, or-false}
+use Rattle.limits.proofs.Refusals.{at-first, at-next, when-true, when-false, when-none, both-none, or-false, first-wrong, next-wrong, both-right}
 use Rattle.records.specs.Records.{taskBytes, slotBytes, replyBytes}
 use Rattle.records.specs.Lookup.{whole}
 use Rattle.site.specs.Site.{siteSizes, siteRoom, siteRefusal, Sited}
@@ -19,20 +19,16 @@ use Rattle.walk.specs.Walk.{Roomy, Walked}
 -- ---- refusal 1, tested part by part
 
 pub sizes-tasks : (t s : List ℕ) → (length t % taskBytes ≡ 0 → ⊥) → 1 ≡ siteSizes t s
-unfolding siteSizes _when_
-sizes-tasks t s n = sym (ap (λ b. 1 when (not b || not (eqb (length s % slotBytes) 0))) (ne-eqb (length t % taskBytes) 0 n))
+unfolding siteSizes
+sizes-tasks t s bad = first-wrong 1 (length t % taskBytes) 0 (length s % slotBytes) 0 bad
 
 pub sizes-slots : (t s : List ℕ) → length t % taskBytes ≡ 0 → (length s % slotBytes ≡ 0 → ⊥) → 1 ≡ siteSizes t s
-unfolding siteSizes _when_
-sizes-slots t s e n =
-    sym (ap (λ b. 1 when (not b || not (eqb (length s % slotBytes) 0))) (eq-eqb (length t % taskBytes) 0 e)
-    ∙ ap (λ b. 1 when not b) (ne-eqb (length s % slotBytes) 0 n))
+unfolding siteSizes
+sizes-slots t s e bad = next-wrong 1 (length t % taskBytes) 0 (length s % slotBytes) 0 e bad
 
 pub sizes-good : (t s : List ℕ) → length t % taskBytes ≡ 0 → length s % slotBytes ≡ 0 → 0 ≡ siteSizes t s
-unfolding siteSizes _when_
-sizes-good t s e f =
-    sym (ap (λ b. 1 when (not b || not (eqb (length s % slotBytes) 0))) (eq-eqb (length t % taskBytes) 0 e)
-    ∙ ap (λ b. 1 when not b) (eq-eqb (length s % slotBytes) 0 f))
+unfolding siteSizes
+sizes-good t s e f = both-right 1 (length t % taskBytes) 0 (length s % slotBytes) 0 e f
 
 -- ---- the ways out
 
