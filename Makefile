@@ -37,9 +37,13 @@ $(start)
 endef
 
 # Baselines are measured at their best: clang -O3 where there is a clang. BENCH_ARCHIVE=file measures an archive that was made for this machine.
+# BENCH_BEFORE=file counts with an older archive as well, in the same run; BENCH_BEFORE_MADE tells how that one was made.
 BENCH_ARCHIVE ?= $(ARCHIVE)
 BENCH_MADE ?= as it was built
+BENCH_BEFORE ?=
+BENCH_BEFORE_MADE ?= as it was built
 BENCH_EMULATED := $(if $(EMULATOR),$(if $(filter $(ARCHIVE),$(BENCH_ARCHIVE)),-emulated))
+BENCH_KIND := $(BENCH_EMULATED)$(if $(BENCH_BEFORE),-before)
 BENCH_CC := $(if $(BENCH_EMULATED),$(CC),$(shell command -v clang >/dev/null 2>&1 && echo clang || echo cc))
 BENCH_CFLAGS := -std=c11 -Wall -Wextra -Wpedantic -Werror -O3
 BENCH_MACHINE := $(shell uname -sm)$(shell lscpu 2>/dev/null | sed -n 's/^Model name: */, /p')
@@ -47,10 +51,10 @@ BENCH_MACHINE := $(shell uname -sm)$(shell lscpu 2>/dev/null | sed -n 's/^Model 
 SECOND := definition inputs tally hand second
 ASKED := definition inputs questions asked files
 DESK := desk files
-BENCH := bench report workload plan fp doubling files
-PROGRAMS := build/second build/asked build/stack build/halfway build/records build/desk build/bench$(BENCH_EMULATED)
+BENCH := bench report workload plan fp doubling remainder files
+PROGRAMS := build/second build/asked build/stack build/halfway build/records build/desk build/bench$(BENCH_KIND)
 
-.PHONY: help kit tools test lib install sheet host header-check host-test soak sanitize bench bench-instructions clean
+.PHONY: help kit tools test lib install sheet host header-check host-test soak sanitize bench bench-instructions clean always
 
 help:
 	@echo 'make test                 prove, try the mistakes, run the host programs; last line: N passed, 0 failed'
@@ -87,7 +91,7 @@ build/include/fiddlequill.h: $(HEADER)
 
 build/fiddlequill.pc: Makefile
 	@mkdir -p build
-	printf 'prefix=%s\nlibdir=$${prefix}/lib\nincludedir=$${prefix}/include\n\nName: fiddlequill\nDescription: proved judge for lobby displays\nVersion: 2.0.0\nLibs: -L$${libdir} -lfiddlequill\nCflags: -I$${includedir}\n' '$(PREFIX)' >$@
+	printf 'prefix=%s\nlibdir=$${prefix}/lib\nincludedir=$${prefix}/include\n\nName: fiddlequill\nDescription: proved judge for lobby displays\nVersion: 2.0.1\nLibs: -L$${libdir} -lfiddlequill\nCflags: -I$${includedir}\n' '$(PREFIX)' >$@
 
 install: lib
 	@rm -f build/fiddlequill.pc
@@ -146,11 +150,11 @@ sanitize: build/questions build/sanitized/second build/sanitized/asked build/san
 	build/sanitized/asked '$(CURDIR)/build/questions' build/sanitized/asked-room
 	build/sanitized/second 20000
 
-bench: build/bench$(BENCH_EMULATED)
+bench: build/bench$(BENCH_KIND)
 	@test -z '$(BENCH_EMULATED)' || { echo 'make bench: this machine runs the archive in an emulator, and times there say nothing; BENCH_ARCHIVE=file measures one for this machine' >&2; exit 1; }
-	BENCH_MACHINE='$(BENCH_MACHINE)' BENCH_MADE='$(BENCH_MADE)' $< bench
+	BENCH_MACHINE='$(BENCH_MACHINE)' BENCH_MADE='$(BENCH_MADE)' BENCH_BEFORE_MADE='$(BENCH_BEFORE_MADE)' $< bench
 
-bench-instructions: build/bench$(BENCH_EMULATED)
+bench-instructions: build/bench$(BENCH_KIND)
 	@test -z '$(BENCH_EMULATED)' || { echo 'make bench-instructions: an emulator has other instructions; BENCH_ARCHIVE=file counts those of an archive for this machine' >&2; exit 1; }
 	bench/instructions.sh $<
 
@@ -175,8 +179,13 @@ build/records: build/host/records.o build/host/files.o $(ARCHIVE)
 build/desk: $(DESK:%=build/host/%.o) $(ARCHIVE)
 	$(call link,)
 
-build/bench$(BENCH_EMULATED): $(BENCH:%=build/bench-objects$(BENCH_EMULATED)/%.o) $(BENCH_ARCHIVE)
+build/bench$(BENCH_KIND): $(BENCH:%=build/bench-objects$(BENCH_KIND)/%.o) $(BENCH_ARCHIVE) $(if $(BENCH_BEFORE),build/before.a)
 	$(BENCH_CC) $(LDFLAGS) $^ $(LDLIBS) -o $@
+
+# Made anew each time: another file may be meant by now, and an older one at that.
+build/before.a: $(BENCH_BEFORE) always
+	@mkdir -p $(@D)
+	objcopy --redefine-sym fiddlequill_count=before_count --keep-global-symbol=before_count $< $@
 
 build/sanitized/second: $(SECOND:%=build/sanitized/%.o) $(ARCHIVE)
 	$(call link,$(SANITIZE))
@@ -203,6 +212,6 @@ build/sanitized/%.o: %.c $(HEADER) $(wildcard host/*.h) | tools
 	@mkdir -p $(@D)
 	$(CC) $(CFLAGS) $(SANITIZE) $(CPPFLAGS) -c $< -o $@
 
-build/bench-objects$(BENCH_EMULATED)/%.o: %.c $(HEADER) $(wildcard host/*.h bench/*.h)
+build/bench-objects$(BENCH_KIND)/%.o: %.c $(HEADER) $(wildcard host/*.h bench/*.h)
 	@mkdir -p $(@D)
-	$(BENCH_CC) $(BENCH_CFLAGS) $(CPPFLAGS) -DBENCH_FLAGS='"$(BENCH_CFLAGS)"' -c $< -o $@
+	$(BENCH_CC) $(BENCH_CFLAGS) $(CPPFLAGS) $(if $(BENCH_BEFORE),-DBENCH_BEFORE) -DBENCH_FLAGS='"$(BENCH_CFLAGS)"' -c $< -o $@

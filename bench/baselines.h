@@ -1,6 +1,7 @@
 /*
- * What the archive is measured against. All baselines take the same bytes as
- * fiddlequill_judge, refuse alike, and write the same answer record.
+ * What the archive is measured against. The baselines of judging take the same
+ * bytes as fiddlequill_judge, refuse alike, and write the same answer record;
+ * the one of counting takes, refuses and answers like fiddlequill_count.
  */
 #ifndef BASELINES_H
 #define BASELINES_H
@@ -16,6 +17,38 @@ struct plan {
 /* Refusals 1, 3, 4, 14 to 17 and 6 to 10, in this order; fills the plan where it gives 0. */
 uint32_t plan_read(struct plan *plan, const uint8_t *task, size_t task_len, const uint8_t *slots, size_t slots_len);
 void plan_answer(const struct plan *plan, uint32_t number, uint32_t worst, uint32_t offset, uint8_t *reply);
+
+/* total[x] is the number of usable ticks below x. Inline, as the next two: a baseline is compiled in one piece. */
+static inline void fill_total(const struct plan *plan, uint32_t *total)
+{
+    uint32_t x = 0, sum = 0;
+    for (uint32_t i = 0; i < plan->slots; i++) {
+        while (x < plan->start[i])
+            total[x++] = sum;
+        while (x < plan->end[i])
+            total[x++] = sum++;
+    }
+    while (x <= plan->w)
+        total[x++] = sum;
+}
+
+/* early[a]: dropped at tick a. */
+static inline void fill_early(const struct plan *plan, const uint32_t *total, uint16_t *early)
+{
+    uint32_t w = plan->w, rest = plan->D % w, whole = plan->D / w * total[w];
+    for (uint32_t a = 0; a < w - rest; a++)
+        early[a] = whole + total[a + rest] - total[a] < plan->e;
+    for (uint32_t a = w - rest; a < w; a++)
+        early[a] = whole + total[w] - total[a] + total[a + rest - w] < plan->e;
+}
+
+/* odd[a]: dropped half a tick after a. */
+static inline void fill_odd(const uint16_t *early, uint32_t w, uint16_t *odd)
+{
+    for (uint32_t a = 0; a + 1 < w; a++)
+        odd[a] = early[a] | early[a + 1];
+    odd[w - 1] = early[w - 1] | early[0];
+}
 
 /* The published Finite-Point method, in pieces so that a few candidates can be timed alone. */
 struct fp {
@@ -42,6 +75,14 @@ uint32_t doubling_judge(const uint8_t *task, size_t task_len, const uint8_t *slo
 /* The same with bytes while counts fit them. */
 uint32_t bytes_judge(const uint8_t *task, size_t task_len, const uint8_t *slots, size_t slots_len, uint8_t *reply,
                      size_t reply_len);
+
+/* Counting with a remainder for each strip. */
+uint64_t remainder_count(const uint8_t *task, size_t task_len, const uint8_t *slots, size_t slots_len, uint64_t offset);
+
+#ifdef BENCH_BEFORE
+/* fiddlequill_count of an older archive, in a copy with this name. */
+uint64_t before_count(const uint8_t *task, size_t task_len, const uint8_t *slots, size_t slots_len, uint64_t offset);
+#endif
 
 /* Clears n bytes and reads them. */
 uint32_t floor_pass(uint8_t *bytes, size_t n);

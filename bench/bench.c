@@ -1,7 +1,8 @@
 /*
  * Side by side, in one run and taking turns: the published Finite-Point method
  * (FP), plain doubling in C, in 16 bits and with a byte stage, the archive, and a
- * floor; then a site in one call beside a call for each sign. Every case compares
+ * floor; then a site in one call beside a call for each sign, and counting beside
+ * the obvious loop and, where one was given, an older archive. Every case compares
  * the answers; the exit status depends on that alone, never on a time.
  *
  *   bench FOLDER           prints the report, writes FOLDER/RESULTS.md and results.csv
@@ -345,6 +346,99 @@ static void fill_site(struct site_row *row)
     row->agree = same_site(&whole, &singles) && same_site(&whole, &doubling);
 }
 
+/* ---- counting ---- */
+
+typedef uint64_t (*count)(const uint8_t *, size_t, const uint8_t *, size_t, uint64_t);
+
+#ifdef BENCH_BEFORE
+static const count counters[] = {[OURS] = fiddlequill_count, [LOOP] = remainder_count, [BEFORE] = before_count};
+#else
+static const count counters[] = {[OURS] = fiddlequill_count, [LOOP] = remainder_count};
+#endif
+
+struct counting {
+    const struct workload *load;
+    count count;
+    uint64_t offset, result;
+};
+
+static void count_job(void *context)
+{
+    struct counting *c = context;
+    c->result = c->count(c->load->task, sizeof c->load->task, c->load->slots, c->load->slots_len, c->offset);
+}
+
+static uint64_t counted_by(count count, const struct workload *load, uint64_t offset)
+{
+    struct counting counting = {.load = load, .count = count, .offset = offset};
+    count_job(&counting);
+    return counting.result;
+}
+
+static bool same_count(const struct workload *load, uint64_t offset)
+{
+    uint64_t ours = counted_by(fiddlequill_count, load, offset);
+    bool same = true;
+    for (size_t i = 0; i < LENGTH(counters); i++)
+        same &= counted_by(counters[i], load, offset) == ours;
+    return same;
+}
+
+/* At the half tick that is timed, at the wheel's ends and just beyond, which is refused, and at some drawn ones. */
+static bool same_counts(const struct workload *load, uint64_t timed)
+{
+    const uint64_t turn = 2 * load->cell.w, chosen[] = {timed, 0, 1, turn - 1, turn};
+    uint64_t state = load->cell.w;
+    bool same = true;
+    for (size_t i = 0; i < LENGTH(chosen); i++)
+        same &= same_count(load, chosen[i]);
+    for (size_t i = 0; i < 8; i++)
+        same &= same_count(load, draw(&state) % turn);
+    return same;
+}
+
+/* What k strips take beyond one in the same round; 0 where a quarter of the rounds show none: that is noise. */
+static double time_by_k(const struct contender *all, const struct contender *one)
+{
+    double parts[ROUNDS];
+    for (size_t i = 0; i < ROUNDS; i++)
+        parts[i] = all->times[i] - one->times[i];
+    double part = median(parts);
+    return parts[ROUNDS / 4] > 0 ? part : 0;
+}
+
+/* The parts come first: a median puts the rounds out of order. */
+static struct count_times count_times(struct contender *all, struct contender *one)
+{
+    double by_k = time_by_k(all, one);
+    return (struct count_times){median(all->times), median(one->times), by_k};
+}
+
+/* From the half tick that judging finds, where the count must be its worst. */
+static void fill_count(struct count_row *row)
+{
+    static struct workload load, single;
+    make_workload(&load, row->cell);
+    make_workload(&single, (struct cell){row->cell.w, row->cell.slots, 1});
+    struct judging judging = judged_by(fiddlequill_judge, &load);
+    uint32_t worst = get_number(judging.reply + 8, 4), offset = get_number(judging.reply + 12, 4);
+    struct counting all[LENGTH(counters)], one[LENGTH(counters)];
+    struct contender c[1 + 2 * LENGTH(counters)] = {{.run = judge_job, .context = &judging}};
+    for (size_t i = 0; i < LENGTH(counters); i++) {
+        all[i] = (struct counting){.load = &load, .count = counters[i], .offset = offset};
+        one[i] = (struct counting){.load = &single, .count = counters[i], .offset = offset};
+        c[1 + 2 * i] = (struct contender){.run = count_job, .context = &all[i]};
+        c[2 + 2 * i] = (struct contender){.run = count_job, .context = &one[i]};
+    }
+    take_turns(c, LENGTH(c));
+    row->judging = median(c[0].times);
+    for (size_t i = 0; i < LENGTH(counters); i++)
+        row->by[i] = count_times(&c[1 + 2 * i], &c[2 + 2 * i]);
+    row->spread = largest_spread(c, LENGTH(c));
+    row->agree = judging.number == FIDDLEQUILL_OK && all[OURS].result == worst && same_counts(&load, offset) &&
+                 same_counts(&single, offset);
+}
+
 /* ---- a whole run ---- */
 
 static const uint32_t wheels[] = {55, 700, 1300, 4096, 16384};
@@ -353,6 +447,9 @@ static const uint32_t strip_counts[] = {10, 125, 1024};
 static const uint32_t grant_lengths[] = {1, 20, 64, 256};
 static const struct cell site_cells[] = {{55, 4, 10},    {55, 4, 125},  {1300, 4, 10},
                                          {1300, 4, 125}, {4096, 4, 10}, {4096, 4, 125}};
+static const struct cell count_cells[] = {{55, 4, 10},    {55, 4, 125},    {55, 4, 1024},
+                                          {1300, 4, 10},  {1300, 4, 125},  {1300, 4, 1024},
+                                          {16384, 4, 10}, {16384, 4, 125}, {16384, 4, 1024}};
 
 static const struct {
     const char *kind;
@@ -364,6 +461,7 @@ _Static_assert(LENGTH(wheels) * LENGTH(slot_counts) * LENGTH(strip_counts) <= RO
 _Static_assert(LENGTH(slot_counts) * (1 + LENGTH(strip_counts)) + 2 * LENGTH(strip_counts) <= GROWTHS_MAX, "growths");
 _Static_assert(LENGTH(grant_lengths) * LENGTH(strip_counts) * LENGTH(grant_kinds) <= GRANTS_MAX, "grants");
 _Static_assert(LENGTH(site_cells) <= SITES_MAX, "sites");
+_Static_assert(LENGTH(count_cells) <= COUNTS_MAX, "counts");
 
 static void run_grid(struct results *results)
 {
@@ -424,6 +522,16 @@ static void run_sites(struct results *results)
     }
 }
 
+static void run_counts(struct results *results)
+{
+    results->before = LENGTH(counters) > BEFORE;
+    results->counts = LENGTH(count_cells);
+    for (size_t i = 0; i < results->counts; i++) {
+        results->count[i].cell = count_cells[i];
+        fill_count(&results->count[i]);
+    }
+}
+
 static int write_results(const char *folder, const char *name, void (*print)(FILE *, const struct results *),
                          const struct results *results)
 {
@@ -446,6 +554,7 @@ static int run(const char *folder)
     run_growth(&results);
     run_grants(&results);
     run_sites(&results);
+    run_counts(&results);
     print_report(stdout, &results);
     if (write_results(folder, "RESULTS.md", print_report, &results) != 0 ||
         write_results(folder, "results.csv", print_csv, &results) != 0)
@@ -465,8 +574,7 @@ static int once(struct cell cell)
     }
     make_workload(&load, cell);
     struct judging doubling = judged_by(doubling_judge, &load), ours = judged_by(fiddlequill_judge, &load);
-    uint64_t count = fiddlequill_count(load.task, sizeof load.task, load.slots, load.slots_len,
-                                       get_number(ours.reply + 12, 4));
+    uint64_t count = counted_by(fiddlequill_count, &load, get_number(ours.reply + 12, 4));
     uint32_t v = cell.w < GRANT_SLOTS ? 1 : cell.w / GRANT_SLOTS, h = period_for(GRANT_SLOTS * v, GRANT_SLOTS);
     struct granting grant = {.v = v, .e = h / 3, .h = h, .k = cell.k};
     grant_job(&grant);

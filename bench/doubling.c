@@ -34,38 +34,6 @@ static void add_turned_bytes(struct byte_counts *restrict into, const struct byt
         into->at[t] = (uint8_t)(from->at[t] + more->at[t + s - w]);
 }
 
-/* total[x] is the number of usable ticks below x. */
-static void fill_total(const struct plan *plan, uint32_t *total)
-{
-    uint32_t x = 0, sum = 0;
-    for (uint32_t i = 0; i < plan->slots; i++) {
-        while (x < plan->start[i])
-            total[x++] = sum;
-        while (x < plan->end[i])
-            total[x++] = sum++;
-    }
-    while (x <= plan->w)
-        total[x++] = sum;
-}
-
-/* early[a]: dropped at tick a. */
-static void fill_early(const struct plan *plan, const uint32_t *total, uint16_t *early)
-{
-    uint32_t w = plan->w, rest = plan->D % w, whole = plan->D / w * total[w];
-    for (uint32_t a = 0; a < w - rest; a++)
-        early[a] = whole + total[a + rest] - total[a] < plan->e;
-    for (uint32_t a = w - rest; a < w; a++)
-        early[a] = whole + total[w] - total[a] + total[a + rest - w] < plan->e;
-}
-
-/* odd[a]: dropped half a tick after a. */
-static void fill_odd(const uint16_t *early, uint32_t w, struct counts *odd)
-{
-    for (uint32_t a = 0; a + 1 < w; a++)
-        odd->at[a] = early[a] | early[a + 1];
-    odd->at[w - 1] = early[w - 1] | early[0];
-}
-
 /* The highest bit of k: the first strip's count is the map itself. */
 static uint32_t top_bit(uint32_t k)
 {
@@ -136,7 +104,7 @@ static void find_worst(const struct plan *plan, bool bytes_first, uint32_t *wors
     early[0] = 0; /* w is at least 1, but a compiler may doubt that the loops below write it */
     fill_total(plan, total);
     fill_early(plan, total, early);
-    fill_odd(early, plan->w, &odd);
+    fill_odd(early, plan->w, odd.at);
     const struct counts *counts = bytes_first ? count_bytes(plan, &odd, &one, &other, &wide)
                                               : count_words(plan, &odd, &odd, 1, top_bit(plan->k), &one, &other);
     *worst = counts->at[0];

@@ -1,4 +1,4 @@
-/* Reading and answering, the same for both baselines; and the floor. */
+/* Reading and answering, the same for all baselines; and the floor. */
 #include "baselines.h"
 #include "bytes.h"
 

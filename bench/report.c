@@ -1,6 +1,7 @@
 #include "results.h"
 
 #include <inttypes.h>
+#include <math.h>
 #include <stdlib.h>
 
 #ifndef BENCH_FLAGS
@@ -16,6 +17,8 @@ size_t differences(const struct results *results)
         found += !results->grant[i].agree;
     for (size_t i = 0; i < results->sites; i++)
         found += !results->site[i].agree;
+    for (size_t i = 0; i < results->counts; i++)
+        found += !results->count[i].agree;
     return found;
 }
 
@@ -83,6 +86,39 @@ static double most_site_ratio(const struct results *results)
     return most;
 }
 
+/* 0 stands for no ratio, and tables leave it out: a side wasn't measured, or was lost in noise. */
+static double ratio_or_none(double a, double b)
+{
+    return a > 0 && b > 0 ? a / b : 0;
+}
+
+static double count_ratio(const struct count_row *row, enum counter a, enum counter b)
+{
+    return ratio_or_none(row->by[a].all, row->by[b].all);
+}
+
+static double by_k_ratio(const struct count_row *row, enum counter a, enum counter b)
+{
+    return ratio_or_none(row->by[a].by_k, row->by[b].by_k);
+}
+
+static double judging_ratio(const struct count_row *row)
+{
+    return row->by[OURS].all / row->judging;
+}
+
+/* A row without the ratio makes this 0: then nothing shows that the goal is reached. */
+static double least_by_k_ratio(const struct results *results, uint32_t from_k)
+{
+    double least = HUGE_VAL;
+    for (size_t i = 0; i < results->counts; i++) {
+        const struct count_row *row = &results->count[i];
+        if (row->cell.k >= from_k && by_k_ratio(row, BEFORE, OURS) < least)
+            least = by_k_ratio(row, BEFORE, OURS);
+    }
+    return least;
+}
+
 static void print_goal(FILE *out, const char *what, bool at_least, double goal, double measured)
 {
     bool reached = at_least ? measured >= goal : measured <= goal;
@@ -90,27 +126,42 @@ static void print_goal(FILE *out, const char *what, bool at_least, double goal, 
             reached ? "reached" : "missed");
 }
 
+static void print_goal_at(FILE *out, const char *ratio, const struct cell *cell, const char *mark, bool at_least,
+                          double goal, double measured)
+{
+    char what[80];
+    snprintf(what, sizeof what, "%s, %" PRIu32 " / %" PRIu32 " / %" PRIu32 "%s", ratio, cell->w, cell->slots, cell->k,
+             mark);
+    print_goal(out, what, at_least, goal, measured);
+}
+
 static void print_cell_goal(FILE *out, const struct results *results, const char *ratio, struct cell cell,
                             bool at_least, double goal, double (*measured)(const struct row *))
 {
-    char what[80];
     const struct row *row = row_of(results, cell.w, cell.slots, cell.k);
-    snprintf(what, sizeof what, "%s, %" PRIu32 " / %" PRIu32 " / %" PRIu32 "%s", ratio, cell.w, cell.slots, cell.k,
-             row->way == FP_SAMPLE ? " (~)" : "");
-    print_goal(out, what, at_least, goal, measured(row));
+    print_goal_at(out, ratio, &cell, row->way == FP_SAMPLE ? " (~)" : "", at_least, goal, measured(row));
 }
 
 /* No row may lose by the one call, and the aim is that each gains. */
 static void print_site_goals(FILE *out, const struct results *results)
 {
-    char what[80];
     for (size_t i = 0; i < results->sites; i++) {
-        const struct cell *cell = &results->site[i].cell;
-        snprintf(what, sizeof what, "a site ÷ single calls, %" PRIu32 " / %" PRIu32 " / %" PRIu32, cell->w,
-                 cell->slots, cell->k);
-        print_goal(out, what, false, 1, site_ratio(&results->site[i]));
+        const struct site_row *row = &results->site[i];
+        print_goal_at(out, "a site ÷ single calls", &row->cell, "", false, 1, site_ratio(row));
     }
     print_goal(out, "a site ÷ single calls, the most of all (the aim)", false, 0.8, most_site_ratio(results));
+}
+
+/* Judging looks at all offsets: counting from one of them may not take longer. */
+static void print_count_goals(FILE *out, const struct results *results)
+{
+    for (size_t i = 0; i < results->counts; i++) {
+        const struct count_row *row = &results->count[i];
+        print_goal_at(out, "counting ÷ judging", &row->cell, "", false, 1, judging_ratio(row));
+    }
+    if (results->before)
+        print_goal(out, "counting by k, before ÷ ours, the least for k from 125", true, 3,
+                   least_by_k_ratio(results, 125));
 }
 
 static const struct {
@@ -137,6 +188,7 @@ static void print_goals(FILE *out, const struct results *r)
                         doubling_ratio);
     print_goal(out, "a grant of up to 64 slots, in judgements, the most", false, 7.5, most_judgements(r));
     print_site_goals(out, r);
+    print_count_goals(out, r);
 }
 
 /* ---- the report ---- */
@@ -221,10 +273,38 @@ static void print_sites(FILE *out, const struct results *results)
     }
 }
 
+static void print_column(FILE *out, double value)
+{
+    if (value > 0)
+        fprintf(out, "| %.2f ", value);
+    else
+        fprintf(out, "| – ");
+}
+
+static void print_counts(FILE *out, const struct results *results)
+{
+    fprintf(out, "| w | slots | k | loop ÷ before | loop ÷ ours | by k: before ÷ ours | by k: loop ÷ ours "
+                 "| ours ÷ judging | loop (µs) | before (µs) | ours (µs) | ours, one strip (µs) | judging (µs) "
+                 "| spread | answers |\n"
+                 "|---:|---:|---:|---:|---:|---:|---:|---:|---:|---:|---:|---:|---:|---:|---|\n");
+    for (size_t i = 0; i < results->counts; i++) {
+        const struct count_row *row = &results->count[i];
+        const double columns[] = {count_ratio(row, LOOP, BEFORE), count_ratio(row, LOOP, OURS),
+                                  by_k_ratio(row, BEFORE, OURS), by_k_ratio(row, LOOP, OURS), judging_ratio(row),
+                                  row->by[LOOP].all / 1e3, row->by[BEFORE].all / 1e3, row->by[OURS].all / 1e3,
+                                  row->by[OURS].one / 1e3, row->judging / 1e3, row->spread};
+        fprintf(out, "| %" PRIu32 " | %" PRIu32 " | %" PRIu32 " ", row->cell.w, row->cell.slots, row->cell.k);
+        for (size_t j = 0; j < sizeof columns / sizeof *columns; j++)
+            print_column(out, columns[j]);
+        fprintf(out, "| %s |\n", row->agree ? "all equal" : "DIFFERENT");
+    }
+}
+
 /* Ratios stand before times in every table: they are what carries over to another machine. */
 void print_report(FILE *out, const struct results *results)
 {
     const char *machine = getenv("BENCH_MACHINE"), *archive = getenv("BENCH_MADE");
+    const char *before = getenv("BENCH_BEFORE_MADE");
     fprintf(out, "# Bench\n\nFP is the published Finite-Point method in the obvious C, doubling the plain form of "
                  "doubling in C with 16-bit\ncounts, byte stage the same with bytes while counts fit them, ours the "
                  "archive, floor clearing and reading w bytes.\n\n");
@@ -249,42 +329,81 @@ void print_report(FILE *out, const struct results *results)
                  "made as above and differ\nin id and by up to two ticks in e. Both answers are compared, and with "
                  "doubling's.\n\n", SIGNS);
     print_sites(out, results);
+    fprintf(out, "\n## Counting\n\nDrops from the half tick that judging finds. The loop is the obvious C: a byte map "
+                 "of the wheel's drops, then a\nremainder for each strip. Before is an older archive, – where none "
+                 "was given. By k is what a call takes beyond the\nsame one with a single strip, – where that is lost "
+                 "in noise. Answers are compared from other half ticks, too.\n\n");
+    print_counts(out, results);
     fprintf(out, "\n## Conditions\n\n- machine: %s\n", machine != NULL ? machine : "not told");
     print_compiler(out);
     fprintf(out, "- flags: %s\n- archive: %s\n", BENCH_FLAGS, archive != NULL ? archive : "as it was built");
+    if (results->before)
+        fprintf(out, "- before: %s\n", before != NULL ? before : "as it was built");
     fprintf(out, "- runs: medians of %d rounds of at least %.0f µs of processor time each, taking turns\n", ROUNDS,
             batch_ns / 1e3);
-    fprintf(out, "\nbench: %zu cases, %zu differences\n", results->rows + results->grants + results->sites,
-            differences(results));
+    fprintf(out, "\nbench: %zu cases, %zu differences\n",
+            results->rows + results->grants + results->sites + results->counts, differences(results));
+}
+
+/* The columns of counting come last; rows of all other cases end with this. */
+static const char no_count[] = ",,,,,,,,,,,,,,";
+
+static void print_field(FILE *out, int digits, double value)
+{
+    fputc(',', out);
+    if (value > 0)
+        fprintf(out, "%.*f", digits, value);
+}
+
+static void print_csv_counts(FILE *out, const struct results *results)
+{
+    for (size_t i = 0; i < results->counts; i++) {
+        const struct count_row *c = &results->count[i];
+        const struct count_times *loop = &c->by[LOOP], *before = &c->by[BEFORE], *ours = &c->by[OURS];
+        const double times[] = {loop->all, loop->one, loop->by_k, before->all, before->one, before->by_k, ours->one,
+                                ours->by_k, c->judging};
+        const double ratios[] = {count_ratio(c, LOOP, BEFORE), count_ratio(c, LOOP, OURS),
+                                 by_k_ratio(c, BEFORE, OURS), by_k_ratio(c, LOOP, OURS), judging_ratio(c)};
+        fprintf(out, "count,%" PRIu32 ",%" PRIu32 ",%" PRIu32 ",,,,,,%.1f,,,,%.3f,,,,,,,,", c->cell.w, c->cell.slots,
+                c->cell.k, ours->all, c->spread);
+        for (size_t j = 0; j < sizeof times / sizeof *times; j++)
+            print_field(out, 1, times[j]);
+        for (size_t j = 0; j < sizeof ratios / sizeof *ratios; j++)
+            print_field(out, 4, ratios[j]);
+        fputc('\n', out);
+    }
 }
 
 void print_csv(FILE *out, const struct results *results)
 {
     fprintf(out, "case,w,slots,k,zone_starts,fp_timed,fp_ns,doubling_ns,byte_stage_ns,ours_ns,floor_ns,"
                  "fp_over_ours,ours_over_doubling,spread,against_w,against_slots,against_k,growth,judgements,site_ns,"
-                 "singles_ns,site_over_singles\n");
+                 "singles_ns,site_over_singles,loop_ns,loop_one_ns,loop_by_k_ns,before_ns,before_one_ns,before_by_k_ns,"
+                 "ours_one_ns,ours_by_k_ns,judging_ns,loop_over_before,loop_over_ours,by_k_before_over_ours,"
+                 "by_k_loop_over_ours,ours_over_judging\n");
     for (size_t i = 0; i < results->rows; i++) {
         const struct row *r = &results->row[i];
         fprintf(out, "judge,%" PRIu32 ",%" PRIu32 ",%" PRIu32 ",%" PRIu32 ",%s,", r->cell.w, r->cell.slots, r->cell.k,
                 r->zones, way_names[r->way]);
-        fprintf(out, "%.1f,%.1f,%.1f,%.1f,%.1f,%.3f,%.4f,%.3f,,,,,,,,\n", r->fp, r->doubling, r->bytewise, r->ours,
-                r->floor, fp_ratio(r), doubling_ratio(r), r->spread);
+        fprintf(out, "%.1f,%.1f,%.1f,%.1f,%.1f,%.3f,%.4f,%.3f,,,,,,,,%s\n", r->fp, r->doubling, r->bytewise, r->ours,
+                r->floor, fp_ratio(r), doubling_ratio(r), r->spread, no_count);
     }
     for (size_t i = 0; i < results->growths; i++) {
         const struct growth *g = &results->growth[i];
         fprintf(out, "growth in %s,", growth_names[g->in]);
         fprintf(out, "%" PRIu32 ",%" PRIu32 ",%" PRIu32, g->large.w, g->large.slots, g->large.k);
-        fprintf(out, ",,,,,,,,,,,%" PRIu32 ",%" PRIu32 ",%" PRIu32 ",%.4f,,,,\n", g->small.w, g->small.slots,
-                g->small.k, g->ratio);
+        fprintf(out, ",,,,,,,,,,,%" PRIu32 ",%" PRIu32 ",%" PRIu32 ",%.4f,,,,%s\n", g->small.w, g->small.slots,
+                g->small.k, g->ratio, no_count);
     }
     for (size_t i = 0; i < results->grants; i++) {
         const struct grant_row *g = &results->grant[i];
-        fprintf(out, "grant of %s,%" PRIu32 ",%d,%" PRIu32 ",,,,,,%.1f,,,,,,,,,%.4f,,,\n", g->kind, GRANT_SLOTS * g->v,
-                GRANT_SLOTS, g->k, g->grant, g->judgements);
+        fprintf(out, "grant of %s,%" PRIu32 ",%d,%" PRIu32 ",,,,,,%.1f,,,,,,,,,%.4f,,,%s\n", g->kind,
+                GRANT_SLOTS * g->v, GRANT_SLOTS, g->k, g->grant, g->judgements, no_count);
     }
     for (size_t i = 0; i < results->sites; i++) {
         const struct site_row *s = &results->site[i];
-        fprintf(out, "site of %d,%" PRIu32 ",%" PRIu32 ",%" PRIu32 ",,,,,,,,,,%.3f,,,,,,%.1f,%.1f,%.4f\n", SIGNS,
-                s->cell.w, s->cell.slots, s->cell.k, s->spread, s->site, s->singles, site_ratio(s));
+        fprintf(out, "site of %d,%" PRIu32 ",%" PRIu32 ",%" PRIu32 ",,,,,,,,,,%.3f,,,,,,%.1f,%.1f,%.4f%s\n", SIGNS,
+                s->cell.w, s->cell.slots, s->cell.k, s->spread, s->site, s->singles, site_ratio(s), no_count);
     }
+    print_csv_counts(out, results);
 }

@@ -7,7 +7,7 @@
 #include <stdbool.h>
 #include <stdio.h>
 
-enum { ROUNDS = 15, GRANT_SLOTS = 64, ROWS_MAX = 60, GROWTHS_MAX = 32, GRANTS_MAX = 36, SITES_MAX = 6 };
+enum { ROUNDS = 15, GRANT_SLOTS = 64, ROWS_MAX = 60, GROWTHS_MAX = 32, GRANTS_MAX = 36, SITES_MAX = 6, COUNTS_MAX = 9 };
 
 static const double batch_ns = 200e3;     /* one timing lasts at least this long */
 static const double fp_rounds_ns = 100e6; /* FP up to here takes its turn in every round */
@@ -52,12 +52,31 @@ struct site_row {
     bool agree;
 };
 
+/* Who counts; the last one only where an older archive was given. */
+enum counter { OURS, LOOP, BEFORE, COUNTERS };
+
+/* In ns: a call, the same with one strip, and what goes by k; 0 where there is no such figure. */
+struct count_times {
+    double all, one, by_k;
+};
+
+/* Counting from one half tick against judging the task. */
+struct count_row {
+    struct cell cell;
+    struct count_times by[COUNTERS];
+    double judging; /* ns */
+    double spread;
+    bool agree;
+};
+
 struct results {
-    size_t rows, growths, grants, sites;
+    size_t rows, growths, grants, sites, counts;
+    bool before; /* an older archive was given */
     struct row row[ROWS_MAX];
     struct growth growth[GROWTHS_MAX];
     struct grant_row grant[GRANTS_MAX];
     struct site_row site[SITES_MAX];
+    struct count_row count[COUNTS_MAX];
 };
 
 /* Cases whose answers differ. */

@@ -1,4 +1,7 @@
-/* docs/RULES.md, "Cases by hand" and "The printed sheet", and slot tables with their first bad slot; see hand.h. */
+/*
+ * docs/RULES.md, "Cases by hand" and "The printed sheet"; strips that go round a small wheel; slot tables with their
+ * first bad slot; see hand.h.
+ */
 #include "hand.h"
 
 #include <string.h>
@@ -16,6 +19,13 @@ struct hand_task {
 struct hand_count {
     const char *name;
     uint64_t offset, result;
+};
+
+/* Strips along a wheel of 3 ticks. */
+struct hand_round {
+    const char *name;
+    uint32_t h, k;
+    uint64_t offset, drops;
 };
 
 struct hand_grant {
@@ -87,6 +97,30 @@ static const struct hand_count counts[] = {
     {"P3", 10, PACKED(0, 1)},
     {"P4", 19, PACKED(0, 0)},
     {"T from half tick 20 is refusal 11", 20, PACKED(11, 0)},
+};
+
+/* w 3, slot (0,1), e 1, D 1: a strip that arrives at tick 0 is painted, every other one is dropped. */
+static const struct hand_round rounds[] = {
+    {"one strip at tick 0", 1, 1, 0, 0},
+    {"one strip at tick 1", 1, 1, 2, 1},
+    {"two strips of a turn", 1, 2, 0, 1},
+    {"as many strips as ticks", 1, 3, 0, 2},
+    {"one strip more than ticks", 1, 4, 0, 2},
+    {"five strips", 1, 5, 0, 3},
+    {"two turns of strips", 1, 6, 0, 4},
+    {"two turns and two strips", 1, 8, 0, 5},
+    {"two turns and two strips from tick 1", 1, 8, 2, 6},
+    {"two turns and two strips from tick 2", 1, 8, 4, 5},
+    {"half a tick off, every strip is dropped", 1, 7, 1, 7},
+    {"the last half tick", 1, 7, 5, 7},
+    {"a period of two ticks", 2, 7, 0, 4},
+    {"a period of two ticks from tick 2", 2, 7, 4, 5},
+    {"a period of a turn and a tick", 4, 8, 0, 5},
+    {"a period of 333,333 turns and a tick", 1000000, 8, 0, 5},
+    {"a period of one turn: always tick 0", 3, 7, 0, 0},
+    {"a period of one turn: always tick 1", 3, 7, 2, 7},
+    {"1,024 strips: 341 turns and one", 1, 1024, 0, 682},
+    {"1,024 strips from tick 1", 1, 1024, 2, 683},
 };
 
 /* N 5, D 5, h 14, k 2. */
@@ -219,7 +253,8 @@ static const struct hand_length lengths[] = {
 
 size_t hand_count(void)
 {
-    return LENGTH(tasks) + LENGTH(counts) + LENGTH(grants) + LENGTH(sites) + LENGTH(tables) + LENGTH(lengths);
+    return LENGTH(tasks) + LENGTH(counts) + LENGTH(rounds) + LENGTH(grants) + LENGTH(sites) + LENGTH(tables) +
+           LENGTH(lengths);
 }
 
 static void put_slot(uint8_t *bytes, const uint32_t slot[2])
@@ -257,6 +292,16 @@ static const char *count_case(const struct hand_count *hand, struct input *input
     input->kind = COUNT;
     input->offset = hand->offset;
     said->result = hand->result;
+    return hand->name;
+}
+
+static const char *round_case(const struct hand_round *hand, struct input *input, struct expected *said)
+{
+    const struct hand_task one_slot = {.task = {7, 3, 1, 1, hand->h, 0, hand->k, 0, 1}, .slot = {{0, 1}}};
+    put_task(input, &one_slot);
+    input->kind = COUNT;
+    input->offset = hand->offset;
+    said->result = PACKED(0, hand->drops);
     return hand->name;
 }
 
@@ -330,6 +375,9 @@ const char *hand_case(size_t i, struct input *input, struct expected *said)
     if (i < LENGTH(counts))
         return count_case(&counts[i], input, said);
     i -= LENGTH(counts);
+    if (i < LENGTH(rounds))
+        return round_case(&rounds[i], input, said);
+    i -= LENGTH(rounds);
     if (i < LENGTH(grants))
         return grant_case(&grants[i], input, said);
     i -= LENGTH(grants);

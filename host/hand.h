@@ -1,4 +1,7 @@
-/* The cases by hand of docs/RULES.md, with the outcome that it prints, and slot tables with their first bad slot. */
+/*
+ * The cases by hand of docs/RULES.md, with the outcome that it prints; strips that go round a small wheel; and slot
+ * tables with their first bad slot.
+ */
 #ifndef HAND_H
 #define HAND_H
 

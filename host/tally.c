@@ -101,7 +101,12 @@ static void add_judged(struct tally *tally, const struct task *task, const struc
 
 static void add_counted(struct tally *tally, const struct task *task, const struct input *input, uint64_t count)
 {
-    note(tally, COUNTED_SOME, count > 0 && count < task->k);
+    bool some = count > 0 && count < task->k;
+    note(tally, COUNTED_SOME, some);
+    note(tally, COUNTED_FEW, some && task->k < task->w);
+    note(tally, COUNTED_TURN, some && task->k == task->w);
+    note(tally, COUNTED_TURNS, some && task->k > task->w && task->k % task->w == 0);
+    note(tally, COUNTED_OVER, some && task->k > task->w && task->k % task->w != 0);
     note(tally, COUNTED_ODD, count > 0 && input->offset % 2 == 1);
     note(tally, LAST_OFFSET, input->offset + 1 == 2 * (uint64_t)task->w);
     note_edge(tally, task->w, EDGE_COUNT, count > 0);

@@ -72,6 +72,10 @@ struct expected {
     X(PAST_STRIPS, "refused 9: k 1,025")                                                                               \
     X(PAST_PAINTED, "refused 10: m one above k")                                                                       \
     X(COUNTED_SOME, "counted: some strips drop, not all")                                                              \
+    X(COUNTED_FEW, "counted: fewer strips than ticks, some drop, not all")                                             \
+    X(COUNTED_TURN, "counted: as many strips as ticks, some drop, not all")                                            \
+    X(COUNTED_TURNS, "counted: whole turns of strips, two or more, and none over, some drop, not all")                 \
+    X(COUNTED_OVER, "counted: whole turns of strips and some over, some drop, not all")                                \
     X(COUNTED_ODD, "counted: drops from an odd half tick")                                                             \
     X(LAST_OFFSET, "counted: offset 2w - 1")                                                                           \
     X(PAST_OFFSET, "refused 11: offset 2w")                                                                            \

@@ -1,2 +1,3 @@
 pub mod Strips
 pub mod Draws
+mod Carried

@@ -1,18 +1,17 @@
 -- Laws of strips along a wheel: counts of a and of b strips make the count of a + b, and a count is at most its strips.
 --
--- In order: one strip; strips in two parts; alike and bounded; strips along a map. Assumes nothing.
+-- In order: one strip; strips in two parts; whole turns; alike and bounded; strips along a map. Assumes nothing.
 use mathlib.Core.Path.{_≡_, refl, sym, ap, _∙_}
 use mathlib.Core.List.{List}
 use Prim.Native.Nat.{ℕ, zero, suc, _+_, _*_, _/_, _%_, _≤_, _<_, zero-le}
-use native.Mathlib.Nat.{add-zero, zero-add, zero-mul, add-mul, add-assoc, mod-lt, mod-eq-of-lt}
-use native.Mathlib.Nat.{mod-add-mod, mul-add, mul-left-comm, div-add-mod, add-mul-mod-self-left, mul-le-mul, le-antisymm}
+use native.Mathlib.Nat.{add-zero, zero-add, zero-mul, one-mul, add-mul, add-assoc, mod-lt, mod-eq-of-lt}
+use native.Mathlib.Nat.{mod-add-mod, mul-add, mul-left-comm, div-add-mod, add-mul-mod-self-left}
 use native.Mathlib.Numerals.{add-one}
 use native.Mathlib.Omega.{arith}
 use lib.ListN.{length, getD}
-use Rattle.limits.specs.Limits.{mostPeriod, mostStrips}
 use Rattle.rules.specs.Sums.{sum}
 use Rattle.rules.proofs.Sums.{sum-cong, sum-split}
-use Rattle.maps.specs.Maps.{strips, fallen, Sized}
+use Rattle.maps.specs.Maps.{strips, fallen}
 
 -- ---- one strip
 
@@ -29,6 +28,25 @@ strips-add f w h a b t =
     let later : sum (λ i. f ((t + (a + i) * h) % w)) b ≡ sum (λ i. f (((t + a * h) % w + i * h) % w)) b =
     sum-cong _ _ b (λ i l. ap f (rw (add-mul, mod-add-mod, add-assoc))) in
     sum-split (λ i. f ((t + i * h) % w)) a b ∙ ap (λ z. sum (λ i. f ((t + i * h) % w)) a + z) later
+
+-- ---- whole turns
+
+-- After w strips a place comes back.
+strips-home : (f : ℕ → ℕ) (w h n t : ℕ) → strips f w h n ((t + w * h) % w) ≡ strips f w h n t
+unfolding strips
+strips-home f w h n t =
+    sum-cong _ _ n (λ i l.
+    let e : t + w * h + i * h ≡ t + i * h + w * h = omega arith in
+    ap f (mod-add-mod (t + w * h) w (i * h) ∙ ap (λ x. x % w) e ∙ add-mul-mod-self-left (t + i * h) w h))
+
+pub strips-rounds : (f : ℕ → ℕ) (w h n r t : ℕ) → strips f w h (n * w + r) t ≡ n * strips f w h w t + strips f w h r t
+strips-rounds f w h zero r t = rw (zero-mul, zero-mul, zero-add, zero-add) refl
+strips-rounds f w h (suc n) r t =
+    let turn = strips f w h w t in
+    let e : suc n * w + r ≡ w + (n * w + r) = omega (arith, add-mul n 1 w, one-mul w) in
+    let rest : strips f w h (n * w + r) ((t + w * h) % w) ≡ n * turn + strips f w h r t =
+    strips-home f w h (n * w + r) t ∙ strips-rounds f w h n r t in
+    rw e (strips-add f w h w (n * w + r) t ∙ omega (arith, rest, add-mul n 1 turn, one-mul turn))
 
 -- ---- alike and bounded
 
@@ -69,30 +87,3 @@ fallen-more m h i p = rw add-one refl
 pub fallen-most : (m : List ℕ) (h k p : ℕ) → ((a : ℕ) → getD m a 0 ≤ 1) → fallen m h k p ≤ k
 unfolding fallen
 fallen-most m h k p bits = strips-most (λ a. getD m a 0) (length m) h k p bits
-
--- The first i strips from p on are counted.
-pub record Counting (m : List ℕ) (h k p met i : ℕ) : Type 0 where
-  pub count : met ≡ fallen m h i p
-  pub some : i ≤ k
-
-pub count-start : (m : List ℕ) (h k p : ℕ) → Counting m h k p 0 0
-count-start m h k p = record { count = sym (fallen-none m h p); some = zero-le }
-
-pub count-next :
-    {m : List ℕ} {h k p met i b : ℕ} → Counting m h k p met i → i < k → b ≡ getD m ((p + i * h) % length m) 0
-    → Counting m h k p (met + b) (i + 1)
-count-next {m} {h} {p = p} {i = i} c less e =
-    record { count = omega (arith, c .count, fallen-more m h i p); some = omega arith }
-
-pub count-few : {m : List ℕ} {h k p met i : ℕ} → Sized m h k → Counting m h k p met i → met ≤ i
-count-few {m} {h} {p = p} {i = i} sized c = omega (arith, c .count, fallen-most m h i p (sized .bits))
-
-pub count-end :
-    {m : List ℕ} {h k p met i : ℕ} → Sized m h k → Counting m h k p met i → k ≤ i → (met ≡ fallen m h k p) × (met ≤ k)
-count-end {m} {h} {k} {p} sized c end =
-    let e : _ ≡ k = le-antisymm (c .some) end in
-    (c .count ∙ ap (λ n. fallen m h n p) e, omega (arith, count-few sized c, e))
-
--- How far a strip lies from the first is a number that fits.
-pub step-fits : {m : List ℕ} {h k i : ℕ} → Sized m h k → i < k → i * h ≤ mostStrips * mostPeriod
-step-fits {i = i} sized less = let few : i ≤ mostStrips = omega (arith, sized .strips) in mul-le-mul few (sized .period)

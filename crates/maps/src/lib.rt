@@ -51,20 +51,58 @@ pub fn draw(runs: &[u16], map: &mut [u8])
     stretch(map, at, w, 0);
 }
 
-// How many of k strips from tick p on meet a 1. Each strip's place on the wheel is a remainder.
+// How many of k strips from tick p on meet a 1. From strip to strip the place goes on by what the period leaves beside whole turns. Four
+// places go along, since none of them waits for another: a to d, where strips i to i + 3 arrive.
+fn along(map: &[u8], p: usize, h: usize, k: usize) -> usize
+    requires { ⌜ Sized (now map) h k × (p < length (now map)) ⌝ }
+    ensures { λ r. ⌜ (r ≡ fallen (now (map .entry)) h k p) × (r ≤ k) ⌝ }
+{
+    let w = map.len();
+    let s = h % w;
+    let two = onward(s, s, w);
+    let four = onward(two, two, w);
+    let mut a = p;
+    let mut b = onward(p, s, w);
+    let mut c = onward(p, two, w);
+    let mut d = onward(b, two, w);
+    let mut met = 0;
+    let mut i = 0;
+    while i + 4 <= k {
+        met = met + bit(map[a]) + bit(map[b]) + bit(map[c]) + bit(map[d]);
+        a = onward(a, four, w);
+        b = onward(b, four, w);
+        c = onward(c, four, w);
+        d = onward(d, four, w);
+        i += 4;
+    }
+    if i == k {
+        return met;
+    }
+    met += bit(map[a]);
+    if i + 1 == k {
+        return met;
+    }
+    met += bit(map[b]);
+    if i + 2 == k {
+        return met;
+    }
+    met + bit(map[c])
+}
+
+// The same, with no more than w strips looked up. After w strips a place comes back: so they are those that are left over beside whole turns,
+// and the others of a turn.
 pub fn tally(map: &[u8], p: usize, h: usize, k: usize) -> usize
     requires { ⌜ Sized (now map) h k × (p < length (now map)) ⌝ }
     ensures { λ r. ⌜ (r ≡ fallen (now (map .entry)) h k p) × (r ≤ k) ⌝ }
 {
     let w = map.len();
-    let mut met = 0;
-    let mut i = 0;
-    while i < k {
-        let at = (p + i * h) % w;
-        met += bit(map[at]);
-        i += 1;
+    if k <= w {
+        return along(map, p, h, k);
     }
-    met
+    let over = k % w;
+    let left = along(map, p, h, over);
+    let others = along(map, (p + over * h) % w, h, w - over);
+    k / w * (left + others) + left
 }
 
 // A place s places further round.
@@ -72,11 +110,11 @@ pub fn onward(p: usize, s: usize, w: usize) -> usize
     requires { ⌜ (p < w) × (s ≤ w) × (w ≤ mostTicks) ⌝ }
     ensures { λ r. ⌜ (r ≡ (p + s) % w) × (r < w) ⌝ }
 {
-    let q = p + s;
-    if q < w {
-        return q;
+    let back = w - s;
+    if p < back {
+        return p + s;
     }
-    q - w
+    p - back
 }
 
 // The place s places back.

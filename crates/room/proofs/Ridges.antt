@@ -3,7 +3,7 @@
 -- A strip dropped at a tick is dropped half a tick before and after it, so only odd half ticks can be worse than all before them, and half
 -- tick 0, before which there is none.
 -- In order: the ridge of late runs; no half tick is above it, and offsets; what is found; the verdict. Assumes nothing.
-use mathlib.Core.Path.{_≡_, refl, sym, _∙_}
+use mathlib.Core.Path.{_≡_, refl, sym, ap, _∙_}
 use mathlib.Core.List.{List}
 use Prim.Native.Nat.{ℕ, zero, suc, _+_, _-_, _*_, _/_, _%_, _≤_, _<_}
 use native.Mathlib.Nat.{le-refl, le-antisymm, mod-lt, mul-zero, zero-mul, add-zero}
@@ -38,23 +38,23 @@ largest-same same top =
       least = λ i s. rw (same i (omega (arith, top .inside))) at (top .least i s);
     }
 
-strips-none : (f : ℕ → ℕ) (w h k i : ℕ) → 0 < w → ((a : ℕ) → a < w → f a ≡ 0) → strips f w h k i ≡ 0
-unfolding strips
-strips-none f w h k i some zeros = sum-const _ 0 k (λ n _. zeros ((i + n * h) % w) (mod-lt (i + n * h) some)) ∙ mul-zero k
-
 -- Without runs no tick is met.
+none-met : (l : List ℕ) (w : ℕ) (z : Subset) → Laid l w z → length l ≡ 0 → (h k i : ℕ) → 0 ≡ met w z h k i
+unfolding met strips edge
+none-met l w z laid none h k i = sym (sum-const _ 0 k (λ n _. missed ((i + n * h) % w) (mod-lt (i + n * h) (laid .wheel .some))) ∙ mul-zero k)
+  where
+    missed : (a : ℕ) → a < w → bit (z a) ≡ 0
+    missed a s = laid .lay .alike 0 a (omega arith) (rw (edge-past l w 1 (omega arith)) s)
+
 pub topped-none : (l : List ℕ) (w h k : ℕ) → length l ≡ 0 → Topped l w h k 0 0
-unfolding Topped met edge
+unfolding Topped
 topped-none l w h k none z laid =
-    largest-same (λ i s. sym (strips-none (λ a. bit (z a)) w h k i (laid .wheel .some) missed)) (record {
+    largest-same (λ i s. none-met l w z laid none h k i) (record {
       bound = λ i s. omega arith;
       inside = laid .wheel .some;
       hit = refl;
       least = λ i s. absurd (omega arith);
     })
-  where
-    missed : (a : ℕ) → a < w → bit (z a) ≡ 0
-    missed a s = laid .lay .alike 0 a (omega arith) (rw (edge-past l w 1 (omega arith)) s)
 
 pub topped-drawn :
     (l : List ℕ) (w : ℕ) (m : List ℕ) (h k : ℕ) → length m ≡ w → ((z : Subset) → Laid l w z → Drawn m z) → (c a : ℕ)
@@ -200,6 +200,14 @@ judged-none l w t n late late′ lates none =
     judged l w t 0 0
     (highest l w t n late late′ w 0 0 lates refl
     (topped-none (take n late′) w (t .h) (t .k) (length-take-le n late′ (lates .room) ∙ none)))
+
+pub tallied-none :
+    (l : List ℕ) (w : ℕ) (t : Task) (x n : ℕ) (late late′ : List ℕ) → LateIn l w t (x % 2) late n late′ → n ≡ 0 → Tallied l w t x 0
+unfolding Tallied count
+tallied-none l w t x n late late′ lates none u laid =
+    let whole : 2 * (x / 2) + x % 2 ≡ x = omega arith in
+    none-met _ w _ (lates .laid u laid) (length-take-le n late′ (lates .room) ∙ none) (t .h) (t .k) (x / 2)
+    ∙ from-side w u (laid .wheel) (asked t) (x % 2) (t .k) (x / 2) ∙ ap (drops 2 u (asked t) (t .k)) whole
 
 -- A late tick drops the first of the strips from there, which is one too many where all must be painted.
 pub judged-one :

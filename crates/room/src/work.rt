@@ -15,12 +15,15 @@ use crate::doubled;
 use limits::Task;
 use maps::Crest;
 
-// How many of the k strips from half tick x are dropped.
+// How many of the k strips from half tick x are dropped. Where no tick is late nothing is drawn.
 fn count(runs: &[u16], w: usize, task: Task, x: usize, late: &mut [u16], map: &mut [u8]) -> u32
     requires { ⌜ Lent (now runs) w task (now late) (now map) × (x < 2 * w) ⌝ }
     ensures { λ r. ⌜ Tallied (now (runs .entry)) w task x r ⌝ }
 {
     let n = late::late(runs, w, task, x % 2, late);
+    if n == 0 {
+        return 0;
+    }
     maps::draw(&late[..n], map);
     maps::tally(map, x / 2, task.h, task.k) as u32
 }

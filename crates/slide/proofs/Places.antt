@@ -1,17 +1,10 @@
--- Places on a wheel, and the strips counted from one: a step on, and the one place that a step leads from. Assumes nothing.
+-- Places on a wheel: a step on, and the one place that a step leads from. Assumes nothing.
 use mathlib.Core.Path.{_≡_, sym, ap, _∙_}
 use mathlib.Core.Logic.{_⊎_, inl, inr, ⊎-elim}
-use mathlib.Core.List.{List}
 use Prim.Native.Nat.{ℕ, _+_, _-_, _*_, _%_, _≤_, _<_}
 use native.Mathlib.Nat.{zero-mul, one-mul, add-mul, add-zero, mod-lt, mod-eq-of-lt, mod-add-mod, add-mod-mod, add-mod-right}
 use native.Mathlib.Omega.{arith}
-use lib.ListN.{length, getD}
 use Rattle.rules.proofs.Sums.{le-or-lt}
-use Rattle.maps.specs.Maps.{fallen}
-use Rattle.maps.proofs.Strips.{Counting, count-start, count-next, count-end}
-use Rattle.slide.specs.Slides.{Round}
-
--- ---- places
 
 pub place-first : {w p : ℕ} (s : ℕ) → p < w → (p + 0 * s) % w ≡ p
 place-first s inside = rw (zero-mul, add-zero) (mod-eq-of-lt inside)
@@ -50,29 +43,3 @@ one-place {a} {b} {w} s la lb e =
     (λ (x : (a + r) % w + w ≡ a + r).
     ⊎-elim (λ (y : (b + r) % w ≡ b + r). omega arith) (λ (y : (b + r) % w + w ≡ b + r). omega arith) (once-round lb lr))
     (once-round la lr)
-
--- ---- the strips counted from a place, the next one's place along with them
-
-pub record Row (m : List ℕ) (s k p drops at i : ℕ) : Type 0 where
-  pub counting : Counting m s k p drops i
-  pub inside : at < length m
-  pub place : at ≡ (p + i * s) % length m
-
-pub row-start : {m : List ℕ} {p : ℕ} (s k : ℕ) → p < length m → Row m s k p 0 p 0
-row-start {m} {p} s k inside =
-    record { counting = count-start m s k p; inside = inside; place = sym (place-first s inside) }
-
-pub row-next :
-    {m : List ℕ} {s k p drops at i b at′ : ℕ} → Row m s k p drops at i → i < k → b ≡ getD m at 0 → at′ ≡ (at + s) % length m
-    → at′ < length m → Row m s k p (drops + b) at′ (i + 1)
-row-next {m} {s} {p = p} {at = at} {i} r less e on inside =
-    record {
-      counting = count-next (r .counting) less (e ∙ ap (λ a. getD m a 0) (r .place));
-      inside = inside;
-      place = on ∙ ap (λ a. (a + s) % length m) (r .place) ∙ place-next (length m) p i s;
-    }
-
-pub row-end :
-    {m : List ℕ} {s k p drops at i : ℕ} → Round m s k → Row m s k p drops at i → k ≤ i
-    → drops ≡ fallen m s k p
-row-end round r end = count-end (round .sized) (r .counting) end .0

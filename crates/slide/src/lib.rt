@@ -15,21 +15,12 @@ fn bit(x: u8) -> u32
     x as u32
 }
 
-// How many of the k strips from tick p on, s ticks apart, meet a 1. The place goes along, without a division.
+// How many of the k strips from tick p on, s ticks apart, meet a 1.
 fn count(map: &[u8], p: usize, s: usize, k: usize) -> u32
     requires { ⌜ Round (now map) s k × (p < length (now map)) ⌝ }
     ensures { λ r. ⌜ r ≡ fallen (now (map .entry)) s k p ⌝ }
 {
-    let w = map.len();
-    let mut drops: u32 = 0;
-    let mut at = p;
-    let mut i = 0;
-    while i < k {
-        drops += bit(map[at]);
-        at = maps::onward(at, s, w);
-        i += 1;
-    }
-    drops
+    maps::tally(map, p, s, k) as u32
 }
 
 // The better of two counts with their ticks: the larger one, and of equal ones that of the earlier tick.

@@ -9,16 +9,15 @@ use Rattle.maps.proofs.onward.Statement.{statement}
 use Rattle.maps.proofs.onward.Tie as tie
 
 returns : tie.Need-returns
-returns c = (sym (mod-eq-of-lt (c .if1 .taken)), c .if1 .taken)
+returns c = (sym (mod-eq-of-lt (omega arith)), omega arith)
 
 returns-2 : tie.Need-returns-2
 returns-2 c =
     let a = c .before .args in
-    let e : a .p + a .s ≡ a .p + a .s - a .w + a .w = omega arith in
-    let once : (a .p + a .s) % a .w ≡ a .p + a .s - a .w =
-    ap (λ y. y % a .w) e ∙ add-mod-right (a .p + a .s - a .w) (a .w) ∙ mod-eq-of-lt (omega arith) in
-    (sym once, omega arith)
+    let past = a .p - (a .w - a .s) in
+    let e : a .p + a .s ≡ past + a .w = omega arith in
+    (sym (ap (λ y. y % a .w) e ∙ add-mod-right past (a .w) ∙ mod-eq-of-lt (omega arith)), omega arith)
 
 pub onward-spec : {M : Type 1} → statement M
 onward-spec =
-    tie.close (tie.spec (λ c. search needs) returns returns-2)
+    tie.close (tie.spec (λ c. search needs) (λ c. search needs) returns returns-2)

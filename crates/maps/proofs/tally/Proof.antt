@@ -1,47 +1,47 @@
--- The loop's invariant: the first i strips are counted (`Counting`). The measure is what is left of the strips.
--- Assumes nothing.
-use Prim.Native.Nat.{_+_, _-_, _*_}
-use native.Mathlib.Nat.{mod-lt}
+-- `maps::tally` meets its contract: whole turns and what is left over beside them (proofs/Carried.antt, `turned`). Assumes nothing.
+use native.Mathlib.Nat.{mod-lt, mod-le}
 use native.Mathlib.Omega.{arith}
 use borrow.Author.Needs.{needs}
-use Rattle.maps.proofs.Strips.{Counting, count-start, count-next, count-few, count-end, step-fits}
+use Rattle.maps.proofs.Carried.{far-fits, sized-fewer, turned}
 use Rattle.maps.proofs.tally.Statement.{statement}
 use Rattle.maps.proofs.tally.Tie as tie
 
-abbrev Inv-loop : tie.InvT-loop
-Inv-loop map p h k w met₀ i₀ met i = Counting map h k p met i
+along-requires-2 : tie.Need-along-requires-2
+along-requires-2 c κs =
+    let start = c .before .before in
+    (sized-fewer (start .pre .0) (mod-le (start .args .k) _), start .pre .1)
 
-abbrev μ-loop : tie.MeasureT-loop
-μ-loop map p h k w met₀ i₀ met i = k - i
+mul-along : tie.Need-mul-along
+mul-along c = let start = c .before .before .before in omega (arith, far-fits (start .pre .0))
 
-loop-holds : tie.Need-loop-holds Inv-loop μ-loop
-loop-holds c = count-start _ _ _ _
+add-along : tie.Need-add-along
+add-along c = let start = c .before .before .before in omega (arith, far-fits (start .pre .0))
 
-mul-at : tie.Need-mul-at Inv-loop μ-loop
-mul-at c = omega (arith, step-fits (c .before .before .before .pre .0) (c .loop-test .taken))
+sub-along : tie.Need-sub-along
+sub-along c = let start = c .before .before .before in omega (arith, mod-lt (start .args .k) (start .pre .0 .some))
 
-add-at : tie.Need-add-at Inv-loop μ-loop
-add-at c = omega (arith, step-fits (c .before .before .before .pre .0) (c .loop-test .taken))
+along-requires-3 : tie.Need-along-requires-3
+along-requires-3 c κs =
+    let start = c .before .before .before in
+    (sized-fewer (start .pre .0) (omega arith), mod-lt _ (start .pre .0 .some))
 
-shared-slice-read-bit : tie.Need-shared-slice-read-bit Inv-loop μ-loop
-shared-slice-read-bit c =
+mul-result : tie.Need-mul-result
+mul-result c =
     let start = c .before .before .before .before in
-    let on = start .args .p + c .before .before .loop .i * start .args .h in
-    omega (arith, mod-lt on (start .pre .0 .some))
+    omega (arith, turned _ (start .pre .0) (c .before .along2 .ensures .0) (c .along3 .ensures .0) .1, start .pre .0 .strips)
 
-add-met : tie.Need-add-met Inv-loop μ-loop
-add-met c =
-    let start = c .before .before .before .before .before in
-    omega (arith, count-few (start .pre .0) (c .before .before .before .loop .inv), c .bit .ensures .1)
+add-result-2 : tie.Need-add-result-2
+add-result-2 c =
+    let start = c .before .before .before .before in
+    omega (arith, turned _ (start .pre .0) (c .before .along2 .ensures .0) (c .along3 .ensures .0) .1, start .pre .0 .strips)
 
-loop-again : tie.Need-loop-again Inv-loop μ-loop
-loop-again c = count-next (c .before .before .before .loop .inv) (c .before .before .loop-test .taken) (c .bit .ensures .0)
-
-returns : tie.Need-returns Inv-loop μ-loop
-returns c = count-end (c .before .before .before .pre .0) (c .before .loop .inv) (c .loop-test .left)
+returns-2 : tie.Need-returns-2
+returns-2 c =
+    let start = c .before .before .before .before in
+    turned _ (start .pre .0) (c .before .along2 .ensures .0) (c .along3 .ensures .0)
 
 pub tally-spec : {M : Type 1} → statement M
 tally-spec =
     tie.close
-    (tie.spec Inv-loop μ-loop loop-holds mul-at add-at (λ c. omega arith) shared-slice-read-bit (λ c κs. search needs) add-met
-    (λ c. omega arith) (λ c. omega arith) loop-again returns)
+    (tie.spec (λ c κs. search needs) (λ c. search needs) (λ c. search needs) along-requires-2 mul-along add-along
+    (λ c. search needs) sub-along along-requires-3 (λ c. search needs) (λ c. search needs) mul-result add-result-2 returns-2)
