@@ -1,7 +1,7 @@
 -- The loop's invariant: the first i strips are counted, and the next four are at a to d (`Carried`). The measure is what is left of the strips.
 -- Assumes nothing.
 use Prim.Native.Nat.{_-_}
-use native.Mathlib.Nat.{mod-lt}
+use native.Mathlib.Nat.{le-of-lt, mod-lt}
 use native.Mathlib.Omega.{arith}
 use borrow.Author.Needs.{needs}
 use Rattle.maps.proofs.Carried.{Carried, carried-start, carried-next, count-end, one-more, two-more, three-more}
@@ -15,12 +15,14 @@ abbrev μ-loop : tie.MeasureT-loop
 μ-loop map p h k w s two four a₀ b₀ c₀ d₀ met₀ i₀ a b c d met i = k - i
 
 onward-requires : tie.Need-onward-requires Inv-loop μ-loop
-onward-requires c κs = let start = c .before in omega (arith, mod-lt (start .args .h) (start .pre .0 .some))
+onward-requires c κs =
+    let sized = c .before .pre .0 in
+    (mod-lt _ (sized .some), le-of-lt (mod-lt _ (sized .some)), sized .most)
 
 onward-requires-3 : tie.Need-onward-requires-3 Inv-loop μ-loop
 onward-requires-3 c κs =
-    let start = c .before .before .before in
-    omega (arith, mod-lt (start .args .h) (start .pre .0 .some))
+    let given = c .before .before .before .pre in
+    (given .1, le-of-lt (mod-lt _ (given .0 .some)), given .0 .most)
 
 loop-holds : tie.Need-loop-holds Inv-loop μ-loop
 loop-holds c =
