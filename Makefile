@@ -37,7 +37,7 @@ $(start)
 endef
 
 # Baselines are measured at their best: clang -O3 where there is a clang. BENCH_ARCHIVE=file measures an archive that was made for this machine.
-# BENCH_BEFORE=file counts with an older archive as well, in the same run; BENCH_BEFORE_MADE tells how that one was made.
+# BENCH_BEFORE=file judges and counts with an older archive as well, in the same run; BENCH_BEFORE_MADE tells how that one was made.
 BENCH_ARCHIVE ?= $(ARCHIVE)
 BENCH_MADE ?= as it was built
 BENCH_BEFORE ?=
@@ -91,7 +91,7 @@ build/include/fiddlequill.h: $(HEADER)
 
 build/fiddlequill.pc: Makefile
 	@mkdir -p build
-	printf 'prefix=%s\nlibdir=$${prefix}/lib\nincludedir=$${prefix}/include\n\nName: fiddlequill\nDescription: proved judge for lobby displays\nVersion: 2.0.1\nLibs: -L$${libdir} -lfiddlequill\nCflags: -I$${includedir}\n' '$(PREFIX)' >$@
+	printf 'prefix=%s\nlibdir=$${prefix}/lib\nincludedir=$${prefix}/include\n\nName: fiddlequill\nDescription: proved judge for lobby displays\nVersion: 3.0.0\nLibs: -L$${libdir} -lfiddlequill\nCflags: -I$${includedir}\n' '$(PREFIX)' >$@
 
 install: lib
 	@rm -f build/fiddlequill.pc
@@ -185,7 +185,8 @@ build/bench$(BENCH_KIND): $(BENCH:%=build/bench-objects$(BENCH_KIND)/%.o) $(BENC
 # Made anew each time: another file may be meant by now, and an older one at that.
 build/before.a: $(BENCH_BEFORE) always
 	@mkdir -p $(@D)
-	objcopy --redefine-sym fiddlequill_count=before_count --keep-global-symbol=before_count $< $@
+	objcopy --redefine-sym fiddlequill_judge=before_judge --redefine-sym fiddlequill_count=before_count \
+		--keep-global-symbol=before_judge --keep-global-symbol=before_count $< $@
 
 build/sanitized/second: $(SECOND:%=build/sanitized/%.o) $(ARCHIVE)
 	$(call link,$(SANITIZE))

@@ -1,12 +1,17 @@
 /*
  * What the archive is measured against. The baselines of judging take the same
- * bytes as fiddlequill_judge, refuse alike, and write the same answer record;
- * the one of counting takes, refuses and answers like fiddlequill_count.
+ * bytes as fiddlequill_judge, refuse alike, and write the same answer record but
+ * for the margin, which the published method doesn't have: only the archive is
+ * timed with it. The one of counting takes, refuses and answers like
+ * fiddlequill_count.
  */
 #ifndef BASELINES_H
 #define BASELINES_H
 
 #include "fiddlequill.h"
+
+/* Where the margin begins in an answer record; it is the last field. */
+enum { MARGIN_AT = 16 };
 
 /* A task and its slots, read and accepted. */
 struct plan {
@@ -16,6 +21,7 @@ struct plan {
 
 /* Refusals 1, 3, 4, 14 to 17 and 6 to 10, in this order; fills the plan where it gives 0. */
 uint32_t plan_read(struct plan *plan, const uint8_t *task, size_t task_len, const uint8_t *slots, size_t slots_len);
+/* Writes the answer up to the margin. */
 void plan_answer(const struct plan *plan, uint32_t number, uint32_t worst, uint32_t offset, uint8_t *reply);
 
 /* total[x] is the number of usable ticks below x. Inline, as the next two: a baseline is compiled in one piece. */
@@ -80,7 +86,9 @@ uint32_t bytes_judge(const uint8_t *task, size_t task_len, const uint8_t *slots,
 uint64_t remainder_count(const uint8_t *task, size_t task_len, const uint8_t *slots, size_t slots_len, uint64_t offset);
 
 #ifdef BENCH_BEFORE
-/* fiddlequill_count of an older archive, in a copy with this name. */
+/* fiddlequill_judge and fiddlequill_count of an older archive, in a copy with these names. */
+uint32_t before_judge(const uint8_t *task, size_t task_len, const uint8_t *slots, size_t slots_len, uint8_t *reply,
+                      size_t reply_len);
 uint64_t before_count(const uint8_t *task, size_t task_len, const uint8_t *slots, size_t slots_len, uint64_t offset);
 #endif
 

@@ -109,9 +109,23 @@ static struct judging judged_by(judge judge, const struct workload *load)
     return judging;
 }
 
+/* Up to the margin, which the baselines don't have. */
 static bool same_answer(const struct judging *a, const struct judging *b)
 {
-    return a->number == b->number && memcmp(a->reply, b->reply, sizeof a->reply) == 0;
+    return a->number == b->number && memcmp(a->reply, b->reply, MARGIN_AT) == 0;
+}
+
+static bool margin_is(const uint8_t *answer, uint32_t least, uint32_t e)
+{
+    return fiddlequill_signed(get_number(answer + MARGIN_AT, 4)) == (int32_t)least - (int32_t)e;
+}
+
+/* The margin against FP's supply at every tick, outside of what is timed. */
+static bool margin_agrees(const struct judging *ours)
+{
+    uint32_t least, largest;
+    fp_supplies(&ours->load->fp, &least, &largest);
+    return margin_is(ours->reply, least, ours->load->fp.plan.e);
 }
 
 /* FP's zones, then some of its candidates; what the others would take is added by proportion. */
@@ -222,8 +236,23 @@ static void fill_row(struct row *row, const struct workload *load)
         row->fp = sampled_fp(row, row->fp, median(c[5].times), sampling.sample);
     }
     row->spread = largest_spread(c, taking_turns[row->way]);
-    row->agree = same_answer(&doubling, &ours) && same_answer(&bytewise, &ours) &&
+    row->agree = same_answer(&doubling, &ours) && same_answer(&bytewise, &ours) && margin_agrees(&ours) &&
                  (row->way == FP_SAMPLE ? sample_agrees(&sampling, &ours) : same_answer(&fp, &ours));
+}
+
+/* By turns with the older archive alone: the ratio is near 1, and other contenders would only disturb it. */
+static void fill_before(struct row *row, const struct workload *load)
+{
+#ifdef BENCH_BEFORE
+    struct judging ours = judged_by(fiddlequill_judge, load), before = judged_by(before_judge, load);
+    struct contender c[] = {{.run = judge_job, .context = &ours}, {.run = judge_job, .context = &before}};
+    take_turns(c, LENGTH(c));
+    row->before = median(c[0].times) / median(c[1].times);
+    row->agree &= same_answer(&before, &ours);
+#else
+    (void)load;
+    row->before = 0;
+#endif
 }
 
 /* ---- growth: one judging against another ---- */
@@ -330,6 +359,18 @@ static bool same_site(const struct siting *a, const struct siting *b)
            memcmp(a->reply, b->reply, sizeof a->reply) == 0;
 }
 
+static bool signs_agree(const struct siting *ours, const struct siting *baseline)
+{
+    for (size_t i = 0; i < SIGNS; i++) {
+        const uint8_t *answer = ours->reply + i * FIDDLEQUILL_ANSWER_BYTES;
+        uint32_t e = get_number(ours->site->tasks + i * FIDDLEQUILL_TASK_BYTES + 8, 4);
+        if (memcmp(answer, baseline->reply + i * FIDDLEQUILL_ANSWER_BYTES, MARGIN_AT) != 0 ||
+            !margin_is(answer, ours->site->least, e))
+            return false;
+    }
+    return baseline->number == FIDDLEQUILL_OK;
+}
+
 /* Plain doubling judges each sign once, so that the archive isn't compared with itself alone. */
 static void fill_site(struct site_row *row)
 {
@@ -343,7 +384,7 @@ static void fill_site(struct site_row *row)
     row->site = median(c[0].times);
     row->singles = median(c[1].times);
     row->spread = largest_spread(c, LENGTH(c));
-    row->agree = same_site(&whole, &singles) && same_site(&whole, &doubling);
+    row->agree = same_site(&whole, &singles) && signs_agree(&whole, &doubling);
 }
 
 /* ---- counting ---- */
@@ -474,7 +515,9 @@ static void run_grid(struct results *results)
         if (cell.slots > cell.w / 2)
             continue;
         make_workload(&load, cell);
-        fill_row(&results->row[results->rows++], &load);
+        struct row *row = &results->row[results->rows++];
+        fill_row(row, &load);
+        fill_before(row, &load);
     }
 }
 
@@ -585,7 +628,7 @@ static int once(struct cell cell)
            "\n",
            get_number(ours.reply + 8, 4), fiddlequill_value(count), fiddlequill_value(grant.result),
            get_number(whole.reply + (SIGNS - 1) * FIDDLEQUILL_ANSWER_BYTES + 8, 4));
-    return same_answer(&doubling, &ours) ? 0 : 1;
+    return same_answer(&doubling, &ours) && margin_agrees(&ours) ? 0 : 1;
 }
 
 int main(int argc, char **argv)

@@ -1,7 +1,6 @@
 #include "results.h"
 
 #include <inttypes.h>
-#include <math.h>
 #include <stdlib.h>
 
 #ifndef BENCH_FLAGS
@@ -65,6 +64,14 @@ static double most_doubling_ratio(const struct results *results, uint32_t from, 
     return most;
 }
 
+static double most_before_ratio(const struct results *results)
+{
+    double most = 0;
+    for (size_t i = 0; i < results->rows; i++)
+        most = results->row[i].before > most ? results->row[i].before : most;
+    return most;
+}
+
 static double most_judgements(const struct results *results)
 {
     double most = 0;
@@ -107,18 +114,6 @@ static double judging_ratio(const struct count_row *row)
     return row->by[OURS].all / row->judging;
 }
 
-/* A row without the ratio makes this 0: then nothing shows that the goal is reached. */
-static double least_by_k_ratio(const struct results *results, uint32_t from_k)
-{
-    double least = HUGE_VAL;
-    for (size_t i = 0; i < results->counts; i++) {
-        const struct count_row *row = &results->count[i];
-        if (row->cell.k >= from_k && by_k_ratio(row, BEFORE, OURS) < least)
-            least = by_k_ratio(row, BEFORE, OURS);
-    }
-    return least;
-}
-
 static void print_goal(FILE *out, const char *what, bool at_least, double goal, double measured)
 {
     bool reached = at_least ? measured >= goal : measured <= goal;
@@ -159,9 +154,6 @@ static void print_count_goals(FILE *out, const struct results *results)
         const struct count_row *row = &results->count[i];
         print_goal_at(out, "counting ÷ judging", &row->cell, "", false, 1, judging_ratio(row));
     }
-    if (results->before)
-        print_goal(out, "counting by k, before ÷ ours, the least for k from 125", true, 3,
-                   least_by_k_ratio(results, 125));
 }
 
 static const struct {
@@ -186,6 +178,8 @@ static void print_goals(FILE *out, const struct results *r)
     for (size_t i = 0; i < sizeof doubling_goals / sizeof *doubling_goals; i++)
         print_cell_goal(out, r, "ours ÷ doubling", doubling_goals[i].cell, false, doubling_goals[i].most,
                         doubling_ratio);
+    if (r->before)
+        print_goal(out, "ours ÷ before, the most of all cells", false, 1.15, most_before_ratio(r));
     print_goal(out, "a grant of up to 64 slots, in judgements, the most", false, 7.5, most_judgements(r));
     print_site_goals(out, r);
     print_count_goals(out, r);
@@ -213,17 +207,26 @@ static const char *answers_of(const struct row *row)
 
 static const char *const way_names[] = {[FP_ROUNDS] = "rounds", [FP_ONCE] = "once", [FP_SAMPLE] = "sample"};
 
+static void print_column(FILE *out, double value)
+{
+    if (value > 0)
+        fprintf(out, "| %.2f ", value);
+    else
+        fprintf(out, "| – ");
+}
+
 static void print_grid(FILE *out, const struct results *results)
 {
-    fprintf(out, "| w | slots | k | zone starts | FP ÷ ours | ours ÷ doubling | ours ÷ byte stage "
+    fprintf(out, "| w | slots | k | zone starts | FP ÷ ours | ours ÷ doubling | ours ÷ byte stage | ours ÷ before "
                  "| FP (µs) | doubling (µs) | byte stage (µs) | ours (µs) | floor (µs) | FP timed | spread | answers |\n"
-                 "|---:|---:|---:|---:|---:|---:|---:|---:|---:|---:|---:|---:|---|---:|---|\n");
+                 "|---:|---:|---:|---:|---:|---:|---:|---:|---:|---:|---:|---:|---:|---|---:|---|\n");
     for (size_t i = 0; i < results->rows; i++) {
         const struct row *row = &results->row[i];
         const char *about = row->way == FP_SAMPLE ? "~" : "";
         fprintf(out, "| %" PRIu32 " | %" PRIu32 " | %" PRIu32 " | %" PRIu32 " | %s%.1f | %.2f | %.2f ",
                 row->cell.w, row->cell.slots, row->cell.k, row->zones, about, fp_ratio(row), doubling_ratio(row),
                 row->ours / row->bytewise);
+        print_column(out, row->before);
         fprintf(out, "| %s%.1f | %.2f | %.2f | %.2f | %.2f ", about, row->fp / 1e3, row->doubling / 1e3,
                 row->bytewise / 1e3, row->ours / 1e3, row->floor / 1e3);
         fprintf(out, "| %s | %.2f | %s |\n", way_names[row->way], row->spread, answers_of(row));
@@ -273,14 +276,6 @@ static void print_sites(FILE *out, const struct results *results)
     }
 }
 
-static void print_column(FILE *out, double value)
-{
-    if (value > 0)
-        fprintf(out, "| %.2f ", value);
-    else
-        fprintf(out, "| – ");
-}
-
 static void print_counts(FILE *out, const struct results *results)
 {
     fprintf(out, "| w | slots | k | loop ÷ before | loop ÷ ours | by k: before ÷ ours | by k: loop ÷ ours "
@@ -307,7 +302,7 @@ void print_report(FILE *out, const struct results *results)
     const char *before = getenv("BENCH_BEFORE_MADE");
     fprintf(out, "# Bench\n\nFP is the published Finite-Point method in the obvious C, doubling the plain form of "
                  "doubling in C with 16-bit\ncounts, byte stage the same with bytes while counts fit them, ours the "
-                 "archive, floor clearing and reading w bytes.\n\n");
+                 "archive, floor clearing and reading w bytes.\nOnly ours finds the least margin as well.\n\n");
     fprintf(out, "## Goals\n\n");
     print_goals(out, results);
     fprintf(out, "\n## Judging\n\nThe slots lie at an even pitch, each half of it long and moved a little; D = h is a "
@@ -318,7 +313,7 @@ void print_report(FILE *out, const struct results *results)
                  "that can be well off.\n", fp_rounds_ns / 1e6, fp_once_ns / 1e9);
     fprintf(out, "All answers are compared; beside ~ only the sample's counts and FP's count at the answer's offset.\n"
                  "Spread is the upper over the lower quartile of the rounds, the largest of a row: far above 1 the "
-                 "row was\ndisturbed.\n\n");
+                 "row was\ndisturbed. Before is an older archive, – where none was given.\n\n");
     print_grid(out, results);
     fprintf(out, "\n## Growth of ours\n\n");
     print_growth(out, results);
@@ -345,7 +340,7 @@ void print_report(FILE *out, const struct results *results)
             results->rows + results->grants + results->sites + results->counts, differences(results));
 }
 
-/* The columns of counting come last; rows of all other cases end with this. */
+/* The columns of counting come last but one; rows of all other cases have this there. */
 static const char no_count[] = ",,,,,,,,,,,,,,";
 
 static void print_field(FILE *out, int digits, double value)
@@ -370,7 +365,7 @@ static void print_csv_counts(FILE *out, const struct results *results)
             print_field(out, 1, times[j]);
         for (size_t j = 0; j < sizeof ratios / sizeof *ratios; j++)
             print_field(out, 4, ratios[j]);
-        fputc('\n', out);
+        fputs(",\n", out);
     }
 }
 
@@ -380,29 +375,31 @@ void print_csv(FILE *out, const struct results *results)
                  "fp_over_ours,ours_over_doubling,spread,against_w,against_slots,against_k,growth,judgements,site_ns,"
                  "singles_ns,site_over_singles,loop_ns,loop_one_ns,loop_by_k_ns,before_ns,before_one_ns,before_by_k_ns,"
                  "ours_one_ns,ours_by_k_ns,judging_ns,loop_over_before,loop_over_ours,by_k_before_over_ours,"
-                 "by_k_loop_over_ours,ours_over_judging\n");
+                 "by_k_loop_over_ours,ours_over_judging,ours_over_before\n");
     for (size_t i = 0; i < results->rows; i++) {
         const struct row *r = &results->row[i];
         fprintf(out, "judge,%" PRIu32 ",%" PRIu32 ",%" PRIu32 ",%" PRIu32 ",%s,", r->cell.w, r->cell.slots, r->cell.k,
                 r->zones, way_names[r->way]);
-        fprintf(out, "%.1f,%.1f,%.1f,%.1f,%.1f,%.3f,%.4f,%.3f,,,,,,,,%s\n", r->fp, r->doubling, r->bytewise, r->ours,
+        fprintf(out, "%.1f,%.1f,%.1f,%.1f,%.1f,%.3f,%.4f,%.3f,,,,,,,,%s", r->fp, r->doubling, r->bytewise, r->ours,
                 r->floor, fp_ratio(r), doubling_ratio(r), r->spread, no_count);
+        print_field(out, 4, r->before);
+        fputc('\n', out);
     }
     for (size_t i = 0; i < results->growths; i++) {
         const struct growth *g = &results->growth[i];
         fprintf(out, "growth in %s,", growth_names[g->in]);
         fprintf(out, "%" PRIu32 ",%" PRIu32 ",%" PRIu32, g->large.w, g->large.slots, g->large.k);
-        fprintf(out, ",,,,,,,,,,,%" PRIu32 ",%" PRIu32 ",%" PRIu32 ",%.4f,,,,%s\n", g->small.w, g->small.slots,
+        fprintf(out, ",,,,,,,,,,,%" PRIu32 ",%" PRIu32 ",%" PRIu32 ",%.4f,,,,%s,\n", g->small.w, g->small.slots,
                 g->small.k, g->ratio, no_count);
     }
     for (size_t i = 0; i < results->grants; i++) {
         const struct grant_row *g = &results->grant[i];
-        fprintf(out, "grant of %s,%" PRIu32 ",%d,%" PRIu32 ",,,,,,%.1f,,,,,,,,,%.4f,,,%s\n", g->kind,
+        fprintf(out, "grant of %s,%" PRIu32 ",%d,%" PRIu32 ",,,,,,%.1f,,,,,,,,,%.4f,,,%s,\n", g->kind,
                 GRANT_SLOTS * g->v, GRANT_SLOTS, g->k, g->grant, g->judgements, no_count);
     }
     for (size_t i = 0; i < results->sites; i++) {
         const struct site_row *s = &results->site[i];
-        fprintf(out, "site of %d,%" PRIu32 ",%" PRIu32 ",%" PRIu32 ",,,,,,,,,,%.3f,,,,,,%.1f,%.1f,%.4f%s\n", SIGNS,
+        fprintf(out, "site of %d,%" PRIu32 ",%" PRIu32 ",%" PRIu32 ",,,,,,,,,,%.3f,,,,,,%.1f,%.1f,%.4f%s,\n", SIGNS,
                 s->cell.w, s->cell.slots, s->cell.k, s->spread, s->site, s->singles, site_ratio(s), no_count);
     }
     print_csv_counts(out, results);

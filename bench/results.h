@@ -22,6 +22,7 @@ struct row {
     uint32_t zones;
     double fp, doubling, bytewise, ours, floor; /* ns */
     double spread;                              /* the largest of its contenders' quartile ratios */
+    double before;                              /* ours over an older archive; 0 where none was given */
     enum fp_way way;
     bool agree;
 };

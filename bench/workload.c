@@ -95,6 +95,7 @@ void make_site(struct site *site, struct cell cell)
     make_workload(&load, cell);
     fp_supplies(&load.fp, &least, &largest);
     site->cell = cell;
+    site->least = least;
     site->slots_len = load.slots_len;
     memcpy(site->slots, load.slots, load.slots_len);
     for (uint32_t i = 0; i < SIGNS; i++) {

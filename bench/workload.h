@@ -24,6 +24,7 @@ struct site {
     uint8_t tasks[SIGNS * FIDDLEQUILL_TASK_BYTES];
     uint8_t slots[FIDDLEQUILL_SLOTS_MAX * FIDDLEQUILL_SLOT_BYTES];
     size_t slots_len;
+    uint32_t least; /* supply at any tick, the same for all signs */
 };
 
 /* The next number of a fixed row of random ones. */

@@ -1,5 +1,5 @@
 #!/bin/sh
-# What the desk says of bad sites, of an empty one, and of tasks whose table is refused. Usage: desk-test.sh DESK RECORDS SITE
+# What the desk says of bad sites, of an empty one, of tasks whose table is refused, and of margins. Usage: desk-test.sh DESK RECORDS SITE
 set -u
 desk=$1 records=$2 site=$3
 folder=$(mktemp -d) || exit 1
@@ -48,6 +48,13 @@ says() {
 
 # slots N: N slots of a tick each, as lines of a table.
 slots() { awk -v n="$1" 'BEGIN { for (i = 0; i < n; i++) printf "%d,%d\n", 2 * i, 2 * i + 1 }'; }
+
+# needs M E..: a task for each need, its id, as lines of a table; M of 2 strips are to be painted, on a wheel of 10 with one slot.
+needs() {
+    m=$1
+    shift
+    for e in "$@"; do echo "$e,10,$e,5,14,$m,2,0,1"; done
+}
 
 complains 'tasks.bin: No such file'
 cp "$site/tasks.bin" "$folder"
@@ -120,10 +127,82 @@ says 'refused tasks and others' '7,0,3,5,14,1,2,0,1\n8,10,3,5,14,1,2,0,1\n7,0,3,
   tasks.bin, record 0: w 0
 task 8: firm, at worst 0 of 2 strips drop and 1 may, first from tick 0
   counted again from there: 0
+  the first strip there has 2 ticks to spare
+  a strip may need no tick more before one drops
 $r4
   tasks.bin, record 2: w 0
 $r16
   slots.bin, record 0 (slot 0 of the task): from 0 to 8, while w is 7"
+
+# Margins: on a wheel of 10 with the slot (0,8) the least supply within 5 ticks is 3.
+none='firm, at worst 0 of 2 strips drop and 1 may, first from tick 0
+  counted again from there: 0'
+offer='  with 10 free slots of 1 tick'
+says 'a need that grows tick by tick' "$(needs 1 1 2 3 4 5 6)" '0,8' "task 1: $none
+  the first strip there has 4 ticks to spare
+  a strip may need 2 ticks more before one drops
+task 2: $none
+  the first strip there has 3 ticks to spare
+  a strip may need 1 tick more before one drops
+task 3: $none
+  the first strip there has 2 ticks to spare
+  a strip may need no tick more before one drops
+task 4: not firm, at worst 2 of 2 strips drop and 1 may, first from tick 4.5
+  counted again from there: 2
+  the first strip there lacks 0.5 ticks
+  some strip lacks 1 tick
+$offer: the first 9 would make it firm
+task 5: not firm, at worst 2 of 2 strips drop and 1 may, first from tick 3.5
+  counted again from there: 2
+  the first strip there lacks 0.5 ticks
+  some strip lacks 2 ticks
+$offer: the first 10 would make it firm
+task 6: not firm, at worst 2 of 2 strips drop and 1 may, first from tick 0
+  counted again from there: 2
+  the first strip there lacks 1 tick
+  some strip lacks 3 ticks
+$offer: no choice of the free slots makes the task firm"
+says 'strips that may drop, a refused task between' "$(needs 0 4 0 5)" '0,8' "task 4: firm, at worst 2 of 2 strips drop and 2 may, first from tick 4.5
+  counted again from there: 2
+  the first strip there lacks 0.5 ticks
+  some strip lacks 1 tick, but no more drop than may
+task 0: refused with 6, the need e isn't from 1 to 1,000,000 ticks
+task 5: firm, at worst 2 of 2 strips drop and 2 may, first from tick 3.5
+  counted again from there: 2
+  the first strip there lacks 0.5 ticks
+  some strip lacks 2 ticks, but no more drop than may"
+
+# At the worst offset the first strip itself may be painted.
+says 'a first strip with half a tick to spare' '7,4,1,2,5,1,3,0,1' '0,2' 'task 7: firm, at worst 2 of 3 strips drop and 2 may, first from tick 0.5
+  counted again from there: 2
+  the first strip there has 0.5 ticks to spare
+  some strip lacks 1 tick, but no more drop than may'
+says 'a first strip with a tick to spare' '7,10,4,5,5,1,2,0,1' '0,8' 'task 7: firm, at worst 1 of 2 strips drop and 1 may, first from tick 0
+  counted again from there: 1
+  the first strip there has 1 tick to spare
+  some strip lacks 1 tick, but no more drop than may'
+says 'a first strip with just its need' '7,10,5,5,7,1,4,0,1' '0,8' 'task 7: firm, at worst 3 of 4 strips drop and 3 may, first from tick 2.5
+  counted again from there: 3
+  the first strip there has nothing to spare
+  some strip lacks 2 ticks, but no more drop than may'
+
+# A need may grow to the largest one and no further; without slots a strip lacks all of it.
+million='1000000,1000000,1,2'
+says 'almost the largest need to grow' "7,1,1,$million,0,1" '0,1' "task 7: $none
+  the first strip there has 999999 ticks to spare
+  a strip may need 999999 ticks more before one drops"
+says 'a tick below the largest need' "7,1,999999,$million,0,1" '0,1' "task 7: $none
+  the first strip there has 1 tick to spare
+  a strip may need 1 tick more before one drops"
+says 'the largest need' "7,1,1000000,$million,0,1" '0,1' "task 7: $none
+  the first strip there has nothing to spare
+  a strip may need no tick more before one drops"
+says 'a tick above the largest need' "7,1,1000001,$million,0,1" '0,1' "$r6"
+says 'the largest need without slots' "7,10,1000000,$million,0,0" '' "task 7: not firm, at worst 2 of 2 strips drop and 1 may, first from tick 0
+  counted again from there: 2
+  the first strip there lacks 1000000 ticks
+  some strip lacks 1000000 ticks
+$offer: the first 10 would make it firm"
 
 echo "desk-test: $tried cases, $failed failed"
 [ "$failed" -eq 0 ]

@@ -4,10 +4,12 @@
  *
  *   desk FOLDER
  *
- * FOLDER holds tasks.bin and slots.bin (`records make FOLDER` makes them). For
- * a task that isn't firm it asks whether free, equal slots would do; for one
- * that is refused because of its table it says what stands in which record of
- * which file. Records are counted from 0, and so are the slots of a task.
+ * FOLDER holds tasks.bin and slots.bin (`records make FOLDER` makes them). Of a
+ * task that is answered it says how much more a strip may need before one drops,
+ * or how much some strip lacks. For a task that isn't firm it asks whether free,
+ * equal slots would do; for one that is refused because of its table it says
+ * what stands in which record of which file. Records are counted from 0, and so
+ * are the slots of a task.
  * The exit status is 0 when every task got an answer, refused ones included.
  */
 #include "bytes.h"
@@ -31,6 +33,7 @@ struct task {
 
 struct answer {
     uint32_t number, firm, worst, offset;
+    int32_t margin;
 };
 
 static struct task task_of(const uint8_t *bytes)
@@ -55,7 +58,25 @@ static struct answer answer_of(const uint8_t *bytes)
         .firm = get_number(bytes + 6, 2),
         .worst = get_number(bytes + 8, 4),
         .offset = get_number(bytes + 12, 4),
+        .margin = fiddlequill_signed(get_number(bytes + 16, 4)),
     };
+}
+
+/* Among unsigned numbers even INT32_MIN has an opposite. */
+static uint32_t absolute(int32_t margin)
+{
+    return margin < 0 ? 0 - (uint32_t)margin : (uint32_t)margin;
+}
+
+static void print_halves(uint32_t halves)
+{
+    printf("%" PRIu32 "%s", halves / 2, halves % 2 == 1 ? ".5" : "");
+}
+
+static void print_ticks(uint32_t halves)
+{
+    print_halves(halves);
+    printf(" %s", halves == 2 ? "tick" : "ticks");
 }
 
 static void print_verdict(const struct task *task, const struct answer *answer)
@@ -63,7 +84,9 @@ static void print_verdict(const struct task *task, const struct answer *answer)
     printf("task %" PRIu32 ": %s, ", task->id, answer->firm ? "firm" : "not firm");
     printf("at worst %" PRIu32 " of %" PRIu32 " strips drop and %" PRIu32 " may, ", answer->worst, task->k,
            task->k - task->m);
-    printf("first from tick %" PRIu32 "%s\n", answer->offset / 2, answer->offset % 2 == 1 ? ".5" : "");
+    printf("first from tick ");
+    print_halves(answer->offset);
+    printf("\n");
 }
 
 /* Counting again from the worst offset must give the worst count. */
@@ -79,6 +102,51 @@ static int recount(const struct site *site, const uint8_t *record, const struct 
             get_number(record, 4), fiddlequill_number(packed));
     fprintf(stderr, ", count %" PRIu32 "\n", fiddlequill_value(packed));
     return -1;
+}
+
+static void print_first(int32_t halves)
+{
+    printf("  the first strip there %s ", halves < 0 ? "lacks" : "has");
+    if (halves == 0)
+        printf("nothing");
+    else
+        print_ticks(absolute(halves));
+    printf("%s\n", halves < 0 ? "" : " to spare");
+}
+
+/* The first strip at the worst offset, which may be a painted one, can't have less than the least margin. */
+static int tell_first(const struct site *site, const uint8_t *record, const struct answer *answer)
+{
+    uint64_t packed = fiddlequill_margin(record, FIDDLEQUILL_TASK_BYTES, site->slots.bytes, site->slots.len,
+                                         answer->offset);
+    int32_t halves = fiddlequill_signed(fiddlequill_value(packed));
+    if (fiddlequill_number(packed) == FIDDLEQUILL_OK && halves >= 2 * (int64_t)answer->margin) {
+        print_first(halves);
+        return 0;
+    }
+    fprintf(stderr, "%s: task %" PRIu32 ": asking for the margin at the worst offset gives refusal %" PRIu32,
+            site->tasks.path, get_number(record, 4), fiddlequill_number(packed));
+    fprintf(stderr, ", %" PRId32 " half ticks, while the least margin is %" PRId32 " ticks\n", halves, answer->margin);
+    return -1;
+}
+
+/* Need and least margin together are a supply, so at most D: a need that grows that much is never refused. */
+static void tell_growth(int32_t margin)
+{
+    printf("  a strip may need ");
+    if (margin == 0)
+        printf("no tick");
+    else
+        print_ticks(2 * absolute(margin));
+    printf(" more before one drops\n");
+}
+
+/* A firm table may drop strips, too: what they lack is then no fault of it. */
+static void tell_lack(const struct answer *answer)
+{
+    printf("  some strip lacks ");
+    print_ticks(2 * absolute(answer->margin));
+    printf("%s\n", answer->firm ? ", but no more drop than may" : "");
 }
 
 /* The largest number of equal slots that w ticks can be cut into. */
@@ -97,7 +165,9 @@ static void offer_grant(const struct task *task)
     uint32_t n = equal_slots(task->w), v = task->w / n;
     memset(marks, 1, sizeof marks);
     uint64_t packed = fiddlequill_grant(marks, n, v, task->e, task->D, task->h, task->m, task->k);
-    printf("  with %" PRIu32 " free slots of %" PRIu32 " ticks: ", n, v);
+    printf("  with %" PRIu32 " free slots of ", n);
+    print_ticks(2 * v);
+    printf(": ");
     if (fiddlequill_number(packed) == FIDDLEQUILL_OK)
         printf("the first %" PRIu32 " would make it firm\n", fiddlequill_value(packed));
     else
@@ -172,8 +242,12 @@ static int tell_one(const struct site *site, const uint8_t *record, const uint8_
         return tell_table(site, record, &answer);
     }
     print_verdict(&task, &answer);
-    if (recount(site, record, &answer) != 0)
+    if (recount(site, record, &answer) != 0 || tell_first(site, record, &answer) != 0)
         return -1;
+    if (answer.margin < 0)
+        tell_lack(&answer);
+    else
+        tell_growth(answer.margin);
     if (!answer.firm)
         offer_grant(&task);
     return 0;

@@ -1,6 +1,7 @@
 /*
  * The second program's other half: compares the proved program `questions`
- * with docs/RULES.md by definition, on what the archive doesn't export.
+ * with docs/RULES.md by definition, on lookup, which the archive doesn't
+ * export, and on the questions at a half tick without C between.
  *
  *   asked PROGRAM FOLDER [QUESTIONS [SEED]]
  *
@@ -54,11 +55,18 @@ static void write_packed(FILE *file, uint64_t packed)
     fprintf(file, "%" PRIu64 " %" PRIu64 " ", packed >> 32, packed & UINT32_MAX);
 }
 
+/* The same with a value in two's complement. */
+static void write_signed(FILE *file, uint64_t packed)
+{
+    int64_t value = (int64_t)(packed & UINT32_MAX);
+    fprintf(file, "%" PRIu64 " %" PRId64 " ", packed >> 32, value > INT32_MAX ? value - 4294967296 : value);
+}
+
 /* The line that the program should print. */
 static void write_answers(FILE *file, const struct answers *answers)
 {
     write_packed(file, answers->supply);
-    write_packed(file, answers->drop_test);
+    write_signed(file, answers->margin);
     write_packed(file, answers->count);
     fprintf(file, "%d ", answers->found != NULL ? TASK_BYTES : 0);
     for (size_t at = 0; answers->found != NULL && at < TASK_BYTES; at += 4)

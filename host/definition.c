@@ -175,6 +175,11 @@ uint64_t supply_at(const struct wheel *wheel, uint64_t D, uint64_t q, uint64_t p
     return supply(&cells, D, p);
 }
 
+int64_t margin_at(const struct wheel *wheel, const struct strips *strips, uint64_t q, uint64_t p)
+{
+    return (int64_t)supply_at(wheel, strips->D, q, p) - (int64_t)(q * strips->e);
+}
+
 uint32_t count_at(const struct wheel *wheel, const struct strips *strips, uint64_t q, uint64_t p)
 {
     struct cells cells;
@@ -195,10 +200,41 @@ static uint32_t drops_from(const uint8_t *dropped, uint32_t turn, const struct s
     return drops;
 }
 
+/* The margin at a place of the wheel. Whole ticks are counted among the halves alone, so that none counts twice. */
+static void lower(struct least *least, int64_t margin, uint64_t q, uint64_t p)
+{
+    int64_t sixths = margin * (6 / (int64_t)q);
+    if (sixths > least->sixths)
+        return;
+    if (sixths < least->sixths)
+        *least = (struct least){.sixths = sixths};
+    if (q == 2 && p % q == 0 && least->ticks++ == 0)
+        least->first = (uint32_t)(p / q);
+    least->shared |= q == 2 && p % q != 0;
+}
+
+/*
+ * The first window is added up; then one cell leaves it and one comes in. Adding up each of them would take twice as
+ * long as all the rest of a verdict.
+ */
+static void lower_by_thirds(struct least *least, const struct wheel *wheel, const struct strips *strips)
+{
+    static const uint64_t q = 3;
+    struct cells cells;
+    cut(&cells, wheel, q);
+    int64_t margin = (int64_t)supply(&cells, strips->D, 0) - (int64_t)(q * strips->e);
+    uint64_t end = q * strips->D % cells.turn;
+    for (uint64_t p = 0; p < cells.turn; p++) {
+        lower(least, margin, q, p);
+        margin += cells.usable[end] - cells.usable[p];
+        end = end + 1 < cells.turn ? end + 1 : 0;
+    }
+}
+
 struct verdict verdict_of(const struct wheel *wheel, const struct strips *strips)
 {
     static const uint64_t q = 2;
-    struct verdict verdict = {0};
+    struct verdict verdict = {.least = {.sixths = INT64_MAX}};
     struct cells cells;
     uint8_t dropped[2 * WHEEL_MAX];
     cut(&cells, wheel, q);
@@ -206,6 +242,7 @@ struct verdict verdict_of(const struct wheel *wheel, const struct strips *strips
         uint64_t got = supply(&cells, strips->D, t);
         dropped[t] = got < q * strips->e;
         verdict.equal_supply |= got == q * strips->e;
+        lower(&verdict.least, (int64_t)got - (int64_t)(q * strips->e), q, t);
     }
     for (uint32_t t = 0; t < cells.turn; t++) {
         uint32_t drops = drops_from(dropped, (uint32_t)cells.turn, strips, t);
@@ -215,6 +252,7 @@ struct verdict verdict_of(const struct wheel *wheel, const struct strips *strips
         }
     }
     verdict.firm = verdict.worst <= strips->k - strips->m;
+    lower_by_thirds(&verdict.least, wheel, strips);
     return verdict;
 }
 
@@ -242,6 +280,7 @@ uint32_t definition_judge(const uint8_t *task_bytes, size_t task_len, const uint
     put_number(reply + 6, verdict->firm, 2);
     put_number(reply + 8, verdict->worst, 4);
     put_number(reply + 12, verdict->offset, 4);
+    put_number(reply + MARGIN_AT, (uint32_t)(verdict->least.sixths / 6), 4);
     return number;
 }
 
@@ -310,6 +349,19 @@ uint64_t definition_supply(const uint8_t *task_bytes, size_t task_len, const uin
     struct wheel wheel;
     wheel_of_task(&wheel, &task, slots);
     return packed(0, supply_at(&wheel, task.D, 2, offset));
+}
+
+uint64_t definition_margin(const uint8_t *task_bytes, size_t task_len, const uint8_t *slots, size_t slots_len,
+                           uint64_t offset)
+{
+    uint32_t number = refusal_at(task_bytes, task_len, slots, slots_len, offset);
+    if (number != 0)
+        return packed(number, 0);
+    struct task task = task_of_bytes(task_bytes);
+    struct strips strips = strips_of_task(&task);
+    struct wheel wheel;
+    wheel_of_task(&wheel, &task, slots);
+    return packed(0, (uint32_t)margin_at(&wheel, &strips, 2, offset));
 }
 
 /* Rule 3: dropped with less than e ticks, which are 2e half ticks. */

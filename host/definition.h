@@ -17,7 +17,8 @@ enum {
     STRIPS_MAX = 1024,
     TASK_BYTES = 32,
     SLOT_BYTES = 8,
-    ANSWER_BYTES = 16,
+    ANSWER_BYTES = 20,
+    MARGIN_AT = 16, /* where the least margin, the last field, begins in an answer record */
     Q_MAX = 12 /* the finest cells tried are twelfths of a tick */
 };
 
@@ -37,10 +38,18 @@ struct wheel {
     uint8_t usable[WHEEL_MAX];
 };
 
+/* The least margin over all halves and thirds of a tick, in sixths: both of them are whole numbers of those. */
+struct least {
+    int64_t sixths;
+    uint32_t ticks, first; /* how many whole ticks have it, and the first of them */
+    bool shared;           /* an odd half tick has it as well */
+};
+
 struct verdict {
     uint32_t worst, offset;
     bool firm;
     bool equal_supply; /* some half tick has a supply of exactly e */
+    struct least least;
 };
 
 struct task task_of_bytes(const uint8_t *bytes);
@@ -61,9 +70,11 @@ void wheel_of_grid(struct wheel *wheel, const uint8_t *pick, uint64_t n, uint64_
 
 /* Rule 2 at p/q, in units of 1/q. */
 uint64_t supply_at(const struct wheel *wheel, uint64_t D, uint64_t q, uint64_t p);
+/* The margin at p/q, in units of 1/q: supply minus need, below zero where rule 3 drops. */
+int64_t margin_at(const struct wheel *wheel, const struct strips *strips, uint64_t q, uint64_t p);
 /* Rule 4 at p/q. */
 uint32_t count_at(const struct wheel *wheel, const struct strips *strips, uint64_t q, uint64_t p);
-/* Rules 6 and 7. */
+/* Rules 6 and 7, and the least margin. */
 struct verdict verdict_of(const struct wheel *wheel, const struct strips *strips);
 
 /* The calls. A judged reply is written as the archive should write it; other results are packed, the refusal number in the high half. */
@@ -75,6 +86,10 @@ uint64_t definition_count(const uint8_t *task, size_t task_len, const uint8_t *s
 uint64_t definition_which_slot(const uint8_t *task, size_t task_len, const uint8_t *slots, size_t slots_len);
 uint64_t definition_supply(const uint8_t *task, size_t task_len, const uint8_t *slots, size_t slots_len,
                            uint64_t offset);
+/* Signed, in two's complement. */
+uint64_t definition_margin(const uint8_t *task, size_t task_len, const uint8_t *slots, size_t slots_len,
+                           uint64_t offset);
+/* 1 for dropped, 0 for not, from the supply alone. */
 uint64_t definition_drop_test(const uint8_t *task, size_t task_len, const uint8_t *slots, size_t slots_len,
                               uint64_t offset);
 /* Every record of a site by itself; what the records' own verdicts are, the reply tells. */

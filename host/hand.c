@@ -1,6 +1,6 @@
 /*
- * docs/RULES.md, "Cases by hand" and "The printed sheet"; strips that go round a small wheel; slot tables with their
- * first bad slot; see hand.h.
+ * docs/RULES.md, "Cases by hand" and "The printed sheet"; margins; strips that go round a small wheel; slot tables with
+ * their first bad slot; see hand.h.
  */
 #include "hand.h"
 
@@ -8,17 +8,38 @@
 
 #define LENGTH(array) (sizeof(array) / sizeof *(array))
 #define PACKED(number, value) ((uint64_t)(number) * 4294967296u + (value))
+#define ANSWERS(n) ((n) * ANSWER_BYTES)
 
 struct hand_task {
     const char *name;
     struct task task; /* first is 0 */
     uint32_t slot[2][2];
     uint32_t number, firm, worst, at;
+    int32_t margin;
 };
 
-struct hand_count {
+/* P5 with a reply of another length. */
+struct hand_reply {
     const char *name;
-    uint64_t offset, result;
+    size_t len;
+    uint32_t number;
+};
+
+/* A half tick of T. */
+struct hand_point {
+    const char *name;
+    uint64_t offset, count, supply;
+    int32_t margin; /* in half ticks */
+};
+
+/* A task, its slot buffer and an offset that every question at a half tick refuses. */
+struct hand_refusal {
+    const char *name;
+    struct task task;
+    const uint32_t (*slots)[2];
+    size_t records;
+    uint64_t offset;
+    uint32_t number;
 };
 
 /* Strips along a wheel of 3 ticks. */
@@ -57,9 +78,10 @@ struct hand_table {
     uint32_t number, place;
 };
 
-/* The same of T in buffers of other lengths. */
+/* T in buffers of other lengths; a count is asked for at half tick 9. */
 struct hand_length {
     const char *name;
+    enum kind kind;
     size_t task_len, slots_len;
     uint32_t number;
 };
@@ -69,37 +91,74 @@ struct hand_length {
 #define T_SLOT {{0, 8}}
 
 static const struct hand_task tasks[] = {
-    {"P5", T(4, 1), T_SLOT, 0, 0, 2, 9},
-    {"P6", T(4, 0), T_SLOT, 0, 1, 2, 9},
-    {"P7", T(3, 1), T_SLOT, 0, 1, 0, 0},
-    {"P8", T(6, 1), T_SLOT, 0, 0, 2, 0},
-    {"P9", {7, 10, 4, 5, 14, 1, 2, 0, 2}, {{0, 4}, {4, 8}}, 0, 0, 2, 9},
-    {"P10", {7, 10, 1, 5, 5, 1, 3, 0, 0}, {{0, 0}}, 0, 0, 3, 0},
-    {"P11, the sheet's first line", {1, 55, 27, 70, 70, 3, 10, 0, 2}, {{11, 21}, {33, 43}}, 0, 1, 7, 39},
-    {"the sheet's second line", {2, 10, 4, 5, 14, 1, 2, 0, 1}, T_SLOT, 0, 0, 2, 9},
-    {"the sheet's third line", {3, 10, 0, 5, 14, 1, 2, 0, 1}, T_SLOT, 6, 0, 0, 0},
-    {"D 14 passes", {7, 10, 4, 14, 14, 1, 2, 0, 1}, T_SLOT, 0, 1, 0, 0},
-    {"D 15 is refusal 8", {7, 10, 4, 15, 14, 1, 2, 0, 1}, T_SLOT, 8, 0, 0, 0},
-    {"k 1,025 is refusal 9", {7, 10, 4, 5, 14, 1, 1025, 0, 1}, T_SLOT, 9, 0, 0, 0},
-    {"k 1,024 passes", {7, 10, 3, 5, 14, 1, 1024, 0, 1}, T_SLOT, 0, 1, 0, 0},
-    {"a slot (0,10) passes", T(4, 1), {{0, 10}}, 0, 1, 0, 0},
-    {"a slot (0,11) is refusal 16", T(4, 1), {{0, 11}}, 16, 0, 0, 0},
-    {"a slot (0,11) and e 0 is refusal 16", T(0, 1), {{0, 11}}, 16, 0, 0, 0},
-    {"a slot (8,8) is refusal 15", T(4, 1), {{8, 8}}, 15, 0, 0, 0},
-    {"slots (0,4), (3,8) are refusal 17", {7, 10, 4, 5, 14, 1, 2, 0, 2}, {{0, 4}, {3, 8}}, 17, 0, 0, 0},
-    {"w 0 and e 0 is refusal 4", {7, 0, 0, 5, 14, 1, 2, 0, 1}, T_SLOT, 4, 0, 0, 0},
+    {"P5", T(4, 1), T_SLOT, 0, 0, 2, 9, -1},
+    {"P6", T(4, 0), T_SLOT, 0, 1, 2, 9, -1},
+    {"P7", T(3, 1), T_SLOT, 0, 1, 0, 0, 0},
+    {"P8", T(6, 1), T_SLOT, 0, 0, 2, 0, -3},
+    {"P9", {7, 10, 4, 5, 14, 1, 2, 0, 2}, {{0, 4}, {4, 8}}, 0, 0, 2, 9, -1},
+    {"P10", {7, 10, 1, 5, 5, 1, 3, 0, 0}, {{0, 0}}, 0, 0, 3, 0, -1},
+    {"P11, the sheet's first line", {1, 55, 27, 70, 70, 3, 10, 0, 2}, {{11, 21}, {33, 43}}, 0, 1, 7, 39, -7},
+    {"the sheet's second line", {2, 10, 4, 5, 14, 1, 2, 0, 1}, T_SLOT, 0, 0, 2, 9, -1},
+    {"the sheet's third line", {3, 10, 0, 5, 14, 1, 2, 0, 1}, T_SLOT, 6, 0, 0, 0, 0},
+    {"D 14 passes", {7, 10, 4, 14, 14, 1, 2, 0, 1}, T_SLOT, 0, 1, 0, 0, 6},
+    {"D 15 is refusal 8", {7, 10, 4, 15, 14, 1, 2, 0, 1}, T_SLOT, 8, 0, 0, 0, 0},
+    {"k 1,025 is refusal 9", {7, 10, 4, 5, 14, 1, 1025, 0, 1}, T_SLOT, 9, 0, 0, 0, 0},
+    {"k 1,024 passes", {7, 10, 3, 5, 14, 1, 1024, 0, 1}, T_SLOT, 0, 1, 0, 0, 0},
+    {"a slot (0,10) passes", T(4, 1), {{0, 10}}, 0, 1, 0, 0, 1},
+    {"a slot (0,11) is refusal 16", T(4, 1), {{0, 11}}, 16, 0, 0, 0, 0},
+    {"a slot (0,11) and e 0 is refusal 16", T(0, 1), {{0, 11}}, 16, 0, 0, 0, 0},
+    {"a slot (8,8) is refusal 15", T(4, 1), {{8, 8}}, 15, 0, 0, 0, 0},
+    {"slots (0,4), (3,8) are refusal 17", {7, 10, 4, 5, 14, 1, 2, 0, 2}, {{0, 4}, {3, 8}}, 17, 0, 0, 0, 0},
+    {"w 0 and e 0 is refusal 4", {7, 0, 0, 5, 14, 1, 2, 0, 1}, T_SLOT, 4, 0, 0, 0, 0},
+    /* D 2: the supply at ticks 6 to 10 is 2 1 0 1 2, so that tick 8 alone has the least. */
+    {"tick 8 alone below zero, no odd half tick as low", {7, 10, 1, 2, 14, 1, 2, 0, 1}, T_SLOT, 0, 1, 1, 7, -1},
+    {"tick 8 alone two below zero", {7, 10, 2, 2, 14, 1, 2, 0, 1}, T_SLOT, 0, 1, 1, 5, -2},
+    {"tick 0 alone below zero", {7, 10, 1, 2, 14, 1, 2, 0, 1}, {{2, 10}}, 0, 1, 1, 0, -1},
+    {"tick 9 alone below zero", {7, 10, 1, 2, 14, 1, 2, 0, 1}, {{1, 9}}, 0, 1, 1, 9, -1},
+    {"a turn and 2 ticks: tick 8 alone at zero", {7, 10, 8, 12, 14, 1, 2, 0, 1}, T_SLOT, 0, 1, 0, 0, 0},
+    {"a turn and 2 ticks: tick 8 alone nearest, above zero", {7, 10, 3, 12, 14, 1, 2, 0, 1}, T_SLOT, 0, 1, 0, 0, 5},
+    {"two turns and 5 ticks give more than e 10", {7, 10, 10, 25, 25, 1, 2, 0, 1}, T_SLOT, 0, 1, 0, 0, 9},
+    {"two turns and 5 ticks give no e 26", {7, 10, 26, 25, 25, 1, 2, 0, 1}, T_SLOT, 0, 0, 2, 0, -7},
+    {"two whole turns give e 16", {7, 10, 16, 20, 20, 2, 2, 0, 1}, T_SLOT, 0, 1, 0, 0, 0},
+    {"two whole turns give no e 17", {7, 10, 17, 20, 20, 1, 2, 0, 1}, T_SLOT, 0, 0, 2, 0, -1},
+    {"the least margin of all", {7, 10, 1000000, 5, 5, 1, 3, 0, 0}, {{0, 0}}, 0, 0, 3, 0, -1000000},
+    {"the largest margin of all", {7, 1, 1, 1000000, 1000000, 1, 1, 0, 1}, {{0, 1}}, 0, 1, 0, 0, 999999},
+    {"a full wheel that gives just e", {7, 1, 1000000, 1000000, 1000000, 1, 1, 0, 1}, {{0, 1}}, 0, 1, 0, 0, 0},
 };
 
-/* Offsets of T. */
-static const struct hand_count counts[] = {
-    {"P1", 8, PACKED(0, 1)},
-    {"P2", 9, PACKED(0, 2)},
-    {"P3", 10, PACKED(0, 1)},
-    {"P4", 19, PACKED(0, 0)},
-    {"T from half tick 20 is refusal 11", 20, PACKED(11, 0)},
+static const struct hand_reply replies[] = {
+    {"P5 with a reply of 0 bytes is refusal 2", 0, 2},
+    {"P5 with a reply without room for the margin is refusal 2", MARGIN_AT, 2},
+    {"P5 with a reply one byte short is refusal 2", ANSWER_BYTES - 1, 2},
+    {"P5 with a reply of just an answer record", ANSWER_BYTES, 0},
+    {"P5 with a reply one byte longer", ANSWER_BYTES + 1, 0},
+    {"P5 with a reply of two answer records", ANSWERS(2), 0},
+};
+
+/*
+ * The supply at ticks 0 to 9 of T is 5 5 5 5 4 3 3 3 3 4. An odd half tick has half of what both ticks beside it have,
+ * so in half ticks their sum. The need is 8 half ticks. The second strip comes 28 half ticks later, 8 on the wheel.
+ */
+static const struct hand_point points[] = {
+    {"P1", 8, 1, 8, 0},
+    {"P1, its second strip", 16, 1, 6, -2},
+    {"P2", 9, 2, 7, -1},
+    {"P2, its second strip", 17, 1, 7, -1},
+    {"P3", 10, 1, 6, -2},
+    {"P3, its second strip", 18, 0, 8, 0},
+    {"P4", 19, 0, 9, 1},
+    {"P4, its second strip", 7, 1, 9, 1},
+    {"T from half tick 0", 0, 0, 10, 2},
+    {"T from half tick 1", 1, 1, 10, 2},
+    {"T from half tick 13", 13, 1, 6, -2},
 };
 
 /* w 3, slot (0,1), e 1, D 1: a strip that arrives at tick 0 is painted, every other one is dropped. */
+static const struct {
+    uint64_t supply;
+    int32_t margin;
+} round_points[6] = {{2, 0}, {1, -1}, {0, -2}, {0, -2}, {0, -2}, {1, -1}};
+
 static const struct hand_round rounds[] = {
     {"one strip at tick 0", 1, 1, 0, 0},
     {"one strip at tick 1", 1, 1, 2, 1},
@@ -141,38 +200,39 @@ static const uint32_t site_slots[][2] = {{11, 21}, {33, 43}, {0, 8}, {7, 9}, {8,
 enum { SHEET_1, SHEET_2, SHEET_3, SIGN_P7, SIGN_P10, SIGN_15, SIGN_16, SIGN_17 };
 
 static const struct hand_sign signs[] = {
-    [SHEET_1] = {{1, 55, 27, 70, 70, 3, 10, 0, 2}, {1, 0, 0, 0, 0, 0, 1, 0, 7, 0, 0, 0, 39, 0, 0, 0}},
-    [SHEET_2] = {{2, 10, 4, 5, 14, 1, 2, 2, 1}, {2, 0, 0, 0, 0, 0, 0, 0, 2, 0, 0, 0, 9, 0, 0, 0}},
-    [SHEET_3] = {{3, 10, 0, 5, 14, 1, 2, 2, 1}, {3, 0, 0, 0, 6, 0, 0, 0, 0, 0, 0, 0, 0, 0, 0, 0}},
-    [SIGN_P7] = {{258, 10, 3, 5, 14, 1, 2, 2, 1}, {2, 1, 0, 0, 0, 0, 1, 0, 0, 0, 0, 0, 0, 0, 0, 0}},
-    [SIGN_P10] = {{9, 10, 1, 5, 5, 1, 3, 3, 0}, {9, 0, 0, 0, 0, 0, 0, 0, 3, 0, 0, 0, 0, 0, 0, 0}},
-    [SIGN_15] = {{4, 10, 4, 5, 14, 1, 2, 4, 1}, {4, 0, 0, 0, 15, 0, 0, 0, 0, 0, 0, 0, 0, 0, 0, 0}},
-    [SIGN_16] = {{5, 10, 4, 5, 14, 1, 2, 5, 1}, {5, 0, 0, 0, 16, 0, 0, 0, 0, 0, 0, 0, 0, 0, 0, 0}},
-    [SIGN_17] = {{6, 10, 4, 5, 14, 1, 2, 2, 2}, {6, 0, 0, 0, 17, 0, 0, 0, 0, 0, 0, 0, 0, 0, 0, 0}},
+    [SHEET_1] = {{1, 55, 27, 70, 70, 3, 10, 0, 2},
+                 {1, 0, 0, 0, 0, 0, 1, 0, 7, 0, 0, 0, 39, 0, 0, 0, 249, 255, 255, 255}},
+    [SHEET_2] = {{2, 10, 4, 5, 14, 1, 2, 2, 1}, {2, 0, 0, 0, 0, 0, 0, 0, 2, 0, 0, 0, 9, 0, 0, 0, 255, 255, 255, 255}},
+    [SHEET_3] = {{3, 10, 0, 5, 14, 1, 2, 2, 1}, {3, 0, 0, 0, 6, 0, 0, 0, 0, 0, 0, 0, 0, 0, 0, 0, 0, 0, 0, 0}},
+    [SIGN_P7] = {{258, 10, 3, 5, 14, 1, 2, 2, 1}, {2, 1, 0, 0, 0, 0, 1, 0, 0, 0, 0, 0, 0, 0, 0, 0, 0, 0, 0, 0}},
+    [SIGN_P10] = {{9, 10, 1, 5, 5, 1, 3, 3, 0}, {9, 0, 0, 0, 0, 0, 0, 0, 3, 0, 0, 0, 0, 0, 0, 0, 255, 255, 255, 255}},
+    [SIGN_15] = {{4, 10, 4, 5, 14, 1, 2, 4, 1}, {4, 0, 0, 0, 15, 0, 0, 0, 0, 0, 0, 0, 0, 0, 0, 0, 0, 0, 0, 0}},
+    [SIGN_16] = {{5, 10, 4, 5, 14, 1, 2, 5, 1}, {5, 0, 0, 0, 16, 0, 0, 0, 0, 0, 0, 0, 0, 0, 0, 0, 0, 0, 0, 0}},
+    [SIGN_17] = {{6, 10, 4, 5, 14, 1, 2, 2, 2}, {6, 0, 0, 0, 17, 0, 0, 0, 0, 0, 0, 0, 0, 0, 0, 0, 0, 0, 0, 0}},
 };
 
 static const struct hand_site sites[] = {
     {"a site with no records", 0, {0}, 0, 24, 0, 0},
     {"a site with no records and no slots", 0, {0}, 0, 0, 0, 0},
-    {"a site with no records leaves the reply", 0, {0}, 0, 24, 32, 0},
-    {"a site of P11 alone", 1, {SHEET_1}, 32, 24, 16, 0},
-    {"a site of a refused record alone", 1, {SHEET_3}, 32, 24, 16, 0},
-    {"the sheet as a site", 3, {SHEET_1, SHEET_2, SHEET_3}, 96, 24, 48, 0},
-    {"a refused record between P11 and T", 3, {SHEET_1, SHEET_3, SHEET_2}, 96, 24, 48, 0},
-    {"the same with a byte to spare", 3, {SHEET_1, SHEET_3, SHEET_2}, 96, 24, 49, 0},
-    {"the same with room for a fourth answer", 3, {SHEET_1, SHEET_3, SHEET_2}, 96, 24, 64, 0},
-    {"T, P7 and P10 in a site", 3, {SHEET_2, SIGN_P7, SIGN_P10}, 96, 24, 48, 0},
-    {"the same record three times", 3, {SHEET_1, SHEET_1, SHEET_1}, 96, 24, 48, 0},
-    {"refusals 15, 16 and 17 in a site", 3, {SIGN_15, SIGN_16, SIGN_17}, 96, 48, 48, 0},
-    {"T behind refusal 17, on one slot of it", 3, {SIGN_17, SHEET_2, SIGN_15}, 96, 48, 48, 0},
-    {"tasks of 31 bytes are refusal 1", 1, {SHEET_1}, 31, 24, 48, 1},
-    {"tasks of 33 bytes are refusal 1", 2, {SHEET_1, SHEET_2}, 33, 24, 48, 1},
-    {"tasks of 63 bytes are refusal 1", 2, {SHEET_1, SHEET_2}, 63, 24, 48, 1},
-    {"slots of 23 bytes are refusal 1", 2, {SHEET_1, SHEET_2}, 64, 23, 48, 1},
-    {"slots of 25 bytes are refusal 1, also with no records", 0, {0}, 0, 25, 48, 1},
+    {"a site with no records leaves the reply", 0, {0}, 0, 24, ANSWERS(2), 0},
+    {"a site of P11 alone", 1, {SHEET_1}, 32, 24, ANSWERS(1), 0},
+    {"a site of a refused record alone", 1, {SHEET_3}, 32, 24, ANSWERS(1), 0},
+    {"the sheet as a site", 3, {SHEET_1, SHEET_2, SHEET_3}, 96, 24, ANSWERS(3), 0},
+    {"a refused record between P11 and T", 3, {SHEET_1, SHEET_3, SHEET_2}, 96, 24, ANSWERS(3), 0},
+    {"the same with a byte to spare", 3, {SHEET_1, SHEET_3, SHEET_2}, 96, 24, ANSWERS(3) + 1, 0},
+    {"the same with room for a fourth answer", 3, {SHEET_1, SHEET_3, SHEET_2}, 96, 24, ANSWERS(4), 0},
+    {"T, P7 and P10 in a site", 3, {SHEET_2, SIGN_P7, SIGN_P10}, 96, 24, ANSWERS(3), 0},
+    {"the same record three times", 3, {SHEET_1, SHEET_1, SHEET_1}, 96, 24, ANSWERS(3), 0},
+    {"refusals 15, 16 and 17 in a site", 3, {SIGN_15, SIGN_16, SIGN_17}, 96, 48, ANSWERS(3), 0},
+    {"T behind refusal 17, on one slot of it", 3, {SIGN_17, SHEET_2, SIGN_15}, 96, 48, ANSWERS(3), 0},
+    {"tasks of 31 bytes are refusal 1", 1, {SHEET_1}, 31, 24, ANSWERS(3), 1},
+    {"tasks of 33 bytes are refusal 1", 2, {SHEET_1, SHEET_2}, 33, 24, ANSWERS(3), 1},
+    {"tasks of 63 bytes are refusal 1", 2, {SHEET_1, SHEET_2}, 63, 24, ANSWERS(3), 1},
+    {"slots of 23 bytes are refusal 1", 2, {SHEET_1, SHEET_2}, 64, 23, ANSWERS(3), 1},
+    {"slots of 25 bytes are refusal 1, also with no records", 0, {0}, 0, 25, ANSWERS(3), 1},
     {"tasks of 63 bytes and no reply are refusal 1", 2, {SHEET_1, SHEET_2}, 63, 24, 0, 1},
-    {"a reply one byte short is refusal 2", 3, {SHEET_1, SHEET_3, SHEET_2}, 96, 24, 47, 2},
-    {"a reply of two answers for three is refusal 2", 3, {SHEET_1, SHEET_2, SHEET_3}, 96, 24, 32, 2},
+    {"a reply one byte short is refusal 2", 3, {SHEET_1, SHEET_3, SHEET_2}, 96, 24, ANSWERS(3) - 1, 2},
+    {"a reply of two answers for three is refusal 2", 3, {SHEET_1, SHEET_2, SHEET_3}, 96, 24, ANSWERS(2), 2},
     {"no reply for refused records is refusal 2", 1, {SHEET_3}, 32, 24, 0, 2},
 };
 
@@ -239,22 +299,65 @@ static const struct hand_table tables[] = {
     {"both 2^32 - 1", 10, 4, 0, 2, SLOTS({0, 8}, {UINT32_MAX, UINT32_MAX}), 15, 1},
 };
 
+/* Offset 20 is refused by T itself, so it shows what comes before 11. */
+static const struct hand_refusal refusals[] = {
+    {"one slot record too few is refusal 3", {7, 0, 4, 5, 14, 1, 2, 0, 2}, SLOTS({0, 8}), 9, 3},
+    {"w 0 is refusal 4", {7, 0, 4, 5, 14, 1, 2, 0, 1}, SLOTS({0, 8}), 0, 4},
+    {"w 16,385 is refusal 4", {7, 16385, 4, 5, 14, 1, 2, 0, 1}, SLOTS({8, 8}), 9, 4},
+    {"65 slots are refusal 14", {7, 65, 4, 5, 14, 1, 2, 0, 65}, ticks, 65, 9, 14},
+    {"(8,8) is refusal 15", T(0, 1), SLOTS({8, 8}), 9, 15},
+    {"(0,11) is refusal 16", T(0, 1), SLOTS({0, 11}), 20, 16},
+    {"(0,4), (3,8) is refusal 17", {7, 10, 0, 5, 14, 1, 2, 0, 2}, SLOTS({0, 4}, {3, 8}), 9, 17},
+    {"e 0 is refusal 6", {7, 10, 0, 5, 0, 1, 2, 0, 1}, SLOTS({0, 8}), 9, 6},
+    {"e 1,000,001 is refusal 6", T(1000001, 1), SLOTS({0, 8}), 20, 6},
+    {"h 0 is refusal 7", {7, 10, 4, 5, 0, 1, 2, 0, 1}, SLOTS({0, 8}), 9, 7},
+    {"h 1,000,001 is refusal 7", {7, 10, 4, 0, 1000001, 1, 2, 0, 1}, SLOTS({0, 8}), 20, 7},
+    {"D 0 is refusal 8", {7, 10, 4, 0, 14, 1, 0, 0, 1}, SLOTS({0, 8}), 9, 8},
+    {"D above h is refusal 8", {7, 10, 4, 15, 14, 1, 2, 0, 1}, SLOTS({0, 8}), 20, 8},
+    {"k 0 is refusal 9", {7, 10, 4, 5, 14, 1, 0, 0, 1}, SLOTS({0, 8}), 9, 9},
+    {"k 1,025 is refusal 9 at a half tick", {7, 10, 4, 5, 14, 1026, 1025, 0, 1}, SLOTS({0, 8}), 20, 9},
+    {"m above k is refusal 10", T(4, 3), SLOTS({0, 8}), 9, 10},
+    {"m above k is refusal 10 before 11", T(4, 3), SLOTS({0, 8}), 20, 10},
+    {"T from half tick 20 is refusal 11", T(4, 1), SLOTS({0, 8}), 20, 11},
+    {"T from half tick 2^32 + 9 is refusal 11", T(4, 1), SLOTS({0, 8}), 4294967305, 11},
+    {"T from half tick 2^63 + 9 is refusal 11", T(4, 1), SLOTS({0, 8}), 9223372036854775817u, 11},
+    {"T from half tick 2^64 - 1 is refusal 11", T(4, 1), SLOTS({0, 8}), UINT64_MAX, 11},
+};
+
+const struct hand_bits hand_bits[HAND_BITS] = {
+    {0, 0},
+    {1, 1},
+    {7, 7},
+    {0x7fffffff, INT32_MAX},
+    {0x80000000, INT32_MIN},
+    {0x80000001, -INT32_MAX},
+    {0xfffffff9, -7},
+    {0xffffffff, -1},
+};
+
 /* The buffer has two records, of which T's is the first. */
 static const struct hand_length lengths[] = {
-    {"which slot of 0 bytes is refusal 1", 0, 16, 1},
-    {"which slot of 31 bytes is refusal 1", 31, 16, 1},
-    {"which slot of 33 bytes is refusal 1", 33, 16, 1},
-    {"which slot of slots of 7 bytes is refusal 1", 32, 7, 1},
-    {"which slot of slots of 9 bytes is refusal 1", 32, 9, 1},
-    {"which slot of no bytes at all is refusal 1", 0, 0, 1},
-    {"which slot of no slot records is refusal 3", 32, 0, 3},
-    {"which slot of T", 32, 16, 0},
+    {"which slot of 0 bytes is refusal 1", WHICH, 0, 16, 1},
+    {"which slot of 31 bytes is refusal 1", WHICH, 31, 16, 1},
+    {"which slot of 33 bytes is refusal 1", WHICH, 33, 16, 1},
+    {"which slot of slots of 7 bytes is refusal 1", WHICH, 32, 7, 1},
+    {"which slot of slots of 9 bytes is refusal 1", WHICH, 32, 9, 1},
+    {"which slot of no bytes at all is refusal 1", WHICH, 0, 0, 1},
+    {"which slot of no slot records is refusal 3", WHICH, 32, 0, 3},
+    {"which slot of T", WHICH, 32, 16, 0},
+    {"a half tick of 0 bytes is refusal 1", COUNT, 0, 16, 1},
+    {"a half tick of 31 bytes is refusal 1", COUNT, 31, 16, 1},
+    {"a half tick of 33 bytes is refusal 1", COUNT, 33, 16, 1},
+    {"a half tick with slots of 7 bytes is refusal 1", COUNT, 32, 7, 1},
+    {"a half tick with slots of 9 bytes is refusal 1", COUNT, 32, 9, 1},
+    {"a half tick of no bytes at all is refusal 1", COUNT, 0, 0, 1},
+    {"a half tick with no slot records is refusal 3", COUNT, 32, 0, 3},
 };
 
 size_t hand_count(void)
 {
-    return LENGTH(tasks) + LENGTH(counts) + LENGTH(rounds) + LENGTH(grants) + LENGTH(sites) + LENGTH(tables) +
-           LENGTH(lengths);
+    return LENGTH(tasks) + LENGTH(replies) + LENGTH(points) + LENGTH(rounds) + LENGTH(refusals) + LENGTH(grants) +
+           LENGTH(sites) + LENGTH(tables) + LENGTH(lengths);
 }
 
 static void put_slot(uint8_t *bytes, const uint32_t slot[2])
@@ -263,13 +366,18 @@ static void put_slot(uint8_t *bytes, const uint32_t slot[2])
     put_number(bytes + 4, slot[1], 4);
 }
 
+static void put_slots(struct input *input, const uint32_t (*slots)[2], size_t records)
+{
+    input->slots_len = records * SLOT_BYTES;
+    for (size_t i = 0; i < records; i++)
+        put_slot(input->slots + i * SLOT_BYTES, slots[i]);
+}
+
 static void put_task(struct input *input, const struct hand_task *hand)
 {
     task_to_bytes(&hand->task, input->task);
     input->task_len = TASK_BYTES;
-    input->slots_len = hand->task.count * SLOT_BYTES;
-    for (uint32_t i = 0; i < hand->task.count; i++)
-        put_slot(input->slots + i * SLOT_BYTES, hand->slot[i]);
+    put_slots(input, hand->slot, hand->task.count);
 }
 
 static const char *judge_case(const struct hand_task *hand, struct input *input, struct expected *said)
@@ -282,16 +390,50 @@ static const char *judge_case(const struct hand_task *hand, struct input *input,
     put_number(said->reply + 6, hand->firm, 2);
     put_number(said->reply + 8, hand->worst, 4);
     put_number(said->reply + 12, hand->at, 4);
+    put_number(said->reply + MARGIN_AT, (uint32_t)hand->margin, 4);
     said->result = hand->number;
     return hand->name;
 }
 
-static const char *count_case(const struct hand_count *hand, struct input *input, struct expected *said)
+/* The reply holds other bytes before, so that it shows where none is written. */
+static void fill_replies(struct input *input, struct expected *said)
+{
+    memset(input->reply, 0xa5, SITE_REPLY_ROOM);
+    memset(said->reply, 0xa5, SITE_REPLY_ROOM);
+}
+
+static const char *reply_case(const struct hand_reply *hand, struct input *input, struct expected *said)
+{
+    static const uint8_t answer[ANSWER_BYTES] = {7, 0, 0, 0, 0, 0, 0, 0, 2, 0, 0, 0, 9, 0, 0, 0, 255, 255, 255, 255};
+    put_task(input, &tasks[0]);
+    fill_replies(input, said);
+    input->kind = JUDGE;
+    input->null_when_empty = true;
+    input->reply_len = hand->len;
+    if (hand->number == 0)
+        memcpy(said->reply, answer, ANSWER_BYTES);
+    said->result = hand->number;
+    return hand->name;
+}
+
+static void say_point(struct expected *said, uint64_t count, uint64_t supply, int32_t margin)
+{
+    said->result = PACKED(0, count);
+    said->supply = PACKED(0, supply);
+    said->margin = PACKED(0, (uint32_t)margin);
+}
+
+static void say_refusal(struct expected *said, uint32_t number)
+{
+    said->result = said->supply = said->margin = PACKED(number, 0);
+}
+
+static const char *point_case(const struct hand_point *hand, struct input *input, struct expected *said)
 {
     put_task(input, &tasks[0]);
     input->kind = COUNT;
     input->offset = hand->offset;
-    said->result = hand->result;
+    say_point(said, hand->count, hand->supply, hand->margin);
     return hand->name;
 }
 
@@ -301,7 +443,18 @@ static const char *round_case(const struct hand_round *hand, struct input *input
     put_task(input, &one_slot);
     input->kind = COUNT;
     input->offset = hand->offset;
-    said->result = PACKED(0, hand->drops);
+    say_point(said, hand->drops, round_points[hand->offset].supply, round_points[hand->offset].margin);
+    return hand->name;
+}
+
+static const char *refusal_case(const struct hand_refusal *hand, struct input *input, struct expected *said)
+{
+    input->kind = COUNT;
+    task_to_bytes(&hand->task, input->task);
+    input->task_len = TASK_BYTES;
+    put_slots(input, hand->slots, hand->records);
+    input->offset = hand->offset;
+    say_refusal(said, hand->number);
     return hand->name;
 }
 
@@ -317,18 +470,15 @@ static const char *grant_case(const struct hand_grant *hand, struct input *input
     return hand->name;
 }
 
-/* The reply holds other bytes before, so that it shows where none is written. */
 static const char *site_case(const struct hand_site *hand, struct input *input, struct expected *said)
 {
     input->kind = SITE;
     input->null_when_empty = true;
+    put_slots(input, site_slots, LENGTH(site_slots));
     input->task_len = hand->task_len;
     input->slots_len = hand->slots_len;
     input->reply_len = hand->reply_len;
-    for (size_t i = 0; i < LENGTH(site_slots); i++)
-        put_slot(input->slots + i * SLOT_BYTES, site_slots[i]);
-    memset(input->reply, 0xa5, SITE_REPLY_ROOM);
-    memset(said->reply, 0xa5, SITE_REPLY_ROOM);
+    fill_replies(input, said);
     for (size_t i = 0; i < hand->records; i++) {
         const struct hand_sign *sign = &signs[hand->signs[i]];
         task_to_bytes(&sign->task, input->task + i * TASK_BYTES);
@@ -345,9 +495,7 @@ static const char *table_case(const struct hand_table *hand, struct input *input
     input->kind = WHICH;
     task_to_bytes(&task, input->task);
     input->task_len = TASK_BYTES;
-    input->slots_len = hand->records * SLOT_BYTES;
-    for (size_t i = 0; i < hand->records; i++)
-        put_slot(input->slots + i * SLOT_BYTES, hand->slots[i]);
+    put_slots(input, hand->slots, hand->records);
     said->result = PACKED(hand->number, hand->place);
     return hand->name;
 }
@@ -356,11 +504,15 @@ static const char *length_case(const struct hand_length *hand, struct input *inp
 {
     put_task(input, &tasks[0]);
     put_slot(input->slots + SLOT_BYTES, tasks[0].slot[0]);
-    input->kind = WHICH;
+    input->kind = hand->kind;
+    input->offset = 9;
     input->null_when_empty = true;
     input->task_len = hand->task_len;
     input->slots_len = hand->slots_len;
-    said->result = PACKED(hand->number, 0);
+    if (hand->kind == COUNT)
+        say_refusal(said, hand->number);
+    else
+        said->result = PACKED(hand->number, 0);
     return hand->name;
 }
 
@@ -372,12 +524,18 @@ const char *hand_case(size_t i, struct input *input, struct expected *said)
     if (i < LENGTH(tasks))
         return judge_case(&tasks[i], input, said);
     i -= LENGTH(tasks);
-    if (i < LENGTH(counts))
-        return count_case(&counts[i], input, said);
-    i -= LENGTH(counts);
+    if (i < LENGTH(replies))
+        return reply_case(&replies[i], input, said);
+    i -= LENGTH(replies);
+    if (i < LENGTH(points))
+        return point_case(&points[i], input, said);
+    i -= LENGTH(points);
     if (i < LENGTH(rounds))
         return round_case(&rounds[i], input, said);
     i -= LENGTH(rounds);
+    if (i < LENGTH(refusals))
+        return refusal_case(&refusals[i], input, said);
+    i -= LENGTH(refusals);
     if (i < LENGTH(grants))
         return grant_case(&grants[i], input, said);
     i -= LENGTH(grants);

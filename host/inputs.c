@@ -416,6 +416,22 @@ static void draft_gaps(struct rng *rng, struct draft *draft, uint64_t w, uint64_
     draft->task.w = (uint32_t)w;
 }
 
+/* So many turns of a short wheel that a margin above zero may take three bytes. */
+static void draft_turns(struct rng *rng, struct draft *draft)
+{
+    struct strips *s = &draft->strips;
+    uint64_t w = 1 + below(rng, 3), two_bytes = 65536;
+    draft->table.n = 0;
+    draft->table.room = SLOTS_MAX;
+    put_slot(&draft->table, 0, 1 + below(rng, w));
+    s->D = 3 * two_bytes + below(rng, two_bytes);
+    s->h = s->D + below(rng, w + 1);
+    s->e = 1 + below(rng, two_bytes);
+    s->k = 1 + below(rng, FEW_STRIPS);
+    s->m = below(rng, s->k + 1);
+    draft->task.w = (uint32_t)w;
+}
+
 static void place_slots(struct rng *rng, struct draft *draft)
 {
     struct task *task = &draft->task;
@@ -554,7 +570,7 @@ static uint64_t some_offset(struct rng *rng, uint64_t w)
 
 static size_t some_reply_length(struct rng *rng)
 {
-    const uint64_t lengths[] = {0, 1, 15, 17, 17, REPLY_ROOM};
+    const uint64_t lengths[] = {0, 1, MARGIN_AT, ANSWER_BYTES - 1, ANSWER_BYTES + 1, ANSWER_BYTES + 1, REPLY_ROOM};
     return one_in(rng, 5) ? pick(rng, lengths, LENGTH(lengths)) : ANSWER_BYTES;
 }
 
@@ -563,6 +579,9 @@ static void make_task_input(struct rng *rng, struct input *input, uint64_t work)
     struct draft draft;
     if (work == small_work && one_in(rng, 60)) {
         draft_holes(rng, &draft, one_in(rng, 2) ? WHEEL_MAX : 1 + at_most(large_wheel(rng), WHEEL_MAX - 1));
+        work = medium_work;
+    } else if (work == small_work && one_in(rng, 800)) {
+        draft_turns(rng, &draft);
         work = medium_work;
     } else {
         draft_task(rng, &draft, input->kind, work);

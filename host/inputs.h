@@ -4,6 +4,7 @@
 
 #include "definition.h"
 
+/* Where a count is asked for, so are the supply and the margin at the same half tick. */
 enum kind { JUDGE, COUNT, GRANT, SITE, WHICH, KINDS };
 
 enum {
@@ -24,7 +25,7 @@ struct input {
     uint8_t task[SITE_TASKS_ROOM], reply[SITE_REPLY_ROOM]; /* one record and its answer, or a whole site's */
     uint8_t marks[MARKS_ROOM];
     uint8_t *slots; /* SLOTS_ROOM bytes, the caller's */
-    uint64_t offset; /* of a count; also where which slot is compared with one */
+    uint64_t offset; /* of a count, a supply and a margin; also where which slot is compared with them */
     uint64_t v;
     struct strips strips; /* a grant's e, d, h, m, k */
 };

@@ -50,7 +50,7 @@ struct answers answers_of(const struct question *q)
 {
     return (struct answers){
         .supply = definition_supply(q->a, q->a_len, q->b, q->b_len, q->number),
-        .drop_test = definition_drop_test(q->a, q->a_len, q->b, q->b_len, q->number),
+        .margin = definition_margin(q->a, q->a_len, q->b, q->b_len, q->number),
         .count = definition_count(q->a, q->a_len, q->b, q->b_len, q->number),
         .found = definition_lookup(q->a, q->a_len, q->b, q->b_len, (uint32_t)q->number),
     };
@@ -66,15 +66,21 @@ static void note(struct question_tally *tally, enum question_class which, bool m
 static void add_point(struct question_tally *tally, const struct question *q, const struct answers *answers)
 {
     struct task task = task_of_bytes(q->a);
-    uint64_t supply = answers->supply, full = 2 * (uint64_t)task.D, need = 2 * (uint64_t)task.e;
+    uint64_t supply = answers->supply, full = 2 * (uint64_t)task.D;
+    int64_t margin = (int64_t)supply - 2 * (int64_t)task.e;
     note(tally, SUPPLY_NONE, supply == 0);
     note(tally, SUPPLY_FULL, supply == full);
     note(tally, SUPPLY_SOME, supply > 0 && supply < full && q->number % 2 == 0);
     note(tally, SUPPLY_HALF, supply % 2 == 1);
     note(tally, SUPPLY_TURNS, supply > 0 && supply < full && task.D > task.w && task.D % task.w > 0);
     note(tally, SUPPLY_LAST, supply > 0 && q->number + 1 == 2 * (uint64_t)task.w);
-    note(tally, DROPPED_JUST, supply + 1 == need);
-    note(tally, DROPPED_NOT, supply == need);
+    note(tally, MARGIN_BELOW, margin < -1);
+    note(tally, MARGIN_JUST_BELOW, margin == -1);
+    note(tally, MARGIN_ZERO, margin == 0);
+    note(tally, MARGIN_JUST_ABOVE, margin == 1);
+    note(tally, MARGIN_ABOVE, margin > 1);
+    note(tally, MARGIN_OVER_D, task.e > task.D + 1);
+    note(tally, MARGIN_MOST_NEED, task.e == NEED_MAX);
     note(tally, COUNT_SOME, answers->count > 0 && answers->count < task.k);
 }
 

@@ -1,8 +1,8 @@
 /*
- * Seeded questions that C isn't given: supply, drop test and lookup, and the
- * count once more. A question is two byte strings and a number; all four are
- * asked of it: of a task record, slots and an offset, and of a site file, a
- * factory file and the id in the offset's low half.
+ * Seeded questions for a program without C: lookup, which C isn't given, and
+ * supply, margin and count once more. A question is two byte strings and a
+ * number; all four are asked of it: of a task record, slots and an offset, and
+ * of a site file, a factory file and the id in the offset's low half.
  */
 #ifndef QUESTIONS_H
 #define QUESTIONS_H
@@ -19,8 +19,8 @@ struct question {
 
 /* What should come back, by definition. */
 struct answers {
-    uint64_t supply, drop_test, count; /* packed */
-    const uint8_t *found;              /* a record, or NULL */
+    uint64_t supply, margin, count; /* packed */
+    const uint8_t *found;           /* a record, or NULL */
 };
 
 /* Makes question i of a seed in `input`, whose slots must point at SLOTS_ROOM bytes; it lives until the next one. */
@@ -34,8 +34,13 @@ struct answers answers_of(const struct question *question);
     X(SUPPLY_HALF, "supply: an odd number of half ticks")                                                              \
     X(SUPPLY_TURNS, "supply: over a turn and more, not a full one")                                                    \
     X(SUPPLY_LAST, "supply: at half tick 2w - 1")                                                                      \
-    X(DROPPED_JUST, "drop test: half a tick is missing")                                                               \
-    X(DROPPED_NOT, "drop test: exactly e ticks")                                                                       \
+    X(MARGIN_BELOW, "margin: below zero by a tick or more")                                                            \
+    X(MARGIN_JUST_BELOW, "margin: half a tick below zero")                                                             \
+    X(MARGIN_ZERO, "margin: zero")                                                                                     \
+    X(MARGIN_JUST_ABOVE, "margin: half a tick above zero")                                                             \
+    X(MARGIN_ABOVE, "margin: above zero by a tick or more")                                                            \
+    X(MARGIN_OVER_D, "margin: e above D by two ticks or more")                                                         \
+    X(MARGIN_MOST_NEED, "margin: e 1,000,000")                                                                         \
     X(COUNT_SOME, "count: some strips drop, not all")                                                                  \
     X(FOUND_SITE, "lookup: in the site file alone")                                                                    \
     X(FOUND_BOTH, "lookup: in both files")                                                                             \

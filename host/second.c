@@ -6,8 +6,9 @@
  *
  * Each call's result and the whole of each lent buffer, with guard bytes on
  * both sides, must be as the definition says; inputs must stay as they were.
- * A site's answers must also be what the archive says of each record alone,
- * and judging, counting and which slot must refuse a slot table alike.
+ * Where a count is asked for, so are the supply and the margin. A site's answers
+ * must also be what the archive says of each record alone, a judged least margin
+ * what it says of some whole tick, and all calls must refuse a slot table alike.
  * The first difference is printed with its seed, number and bytes, and ends
  * the run. So does, at the end, a class of inputs that was never met.
  */
@@ -27,6 +28,11 @@ enum {
     SETS_WHEEL_MAX = 48, /* and the longest wheel for it */
     LONG_SITE = 5000,    /* records; their bytes and those of the answers both go beyond 16 bits */
 };
+
+/* The definition has its sizes from the rules. */
+_Static_assert(TASK_BYTES == FIDDLEQUILL_TASK_BYTES && SLOT_BYTES == FIDDLEQUILL_SLOT_BYTES &&
+                   ANSWER_BYTES == FIDDLEQUILL_ANSWER_BYTES,
+               "the header has records of other sizes");
 
 /* ---- lent buffers ---- */
 
@@ -85,6 +91,13 @@ static bool holds(const struct lent *lent, const uint8_t *content)
 
 /* ---- both sides ---- */
 
+static void define_point(const struct input *in, struct expected *expected)
+{
+    expected->result = definition_count(in->task, in->task_len, in->slots, in->slots_len, in->offset);
+    expected->supply = definition_supply(in->task, in->task_len, in->slots, in->slots_len, in->offset);
+    expected->margin = definition_margin(in->task, in->task_len, in->slots, in->slots_len, in->offset);
+}
+
 static void define(const struct input *in, struct expected *expected)
 {
     memcpy(expected->reply, in->reply, SITE_REPLY_ROOM);
@@ -96,7 +109,7 @@ static void define(const struct input *in, struct expected *expected)
         expected->result = definition_site(in->task, in->task_len, in->slots, in->slots_len, expected->reply,
                                            in->reply_len);
     else if (in->kind == COUNT)
-        expected->result = definition_count(in->task, in->task_len, in->slots, in->slots_len, in->offset);
+        define_point(in, expected);
     else if (in->kind == WHICH)
         expected->result = definition_which_slot(in->task, in->task_len, in->slots, in->slots_len);
     else
@@ -212,6 +225,30 @@ static bool worst_holds(const struct input *in, const struct lent_buffers *buffe
     return false;
 }
 
+/* The least margin at the whole tick that has it, straight from the cells and by the archive, and at one random p/q. */
+static bool least_holds(const struct input *in, const struct least *least, const struct lent_buffers *buffers,
+                        struct tally *tally, struct rng *rng)
+{
+    const uint8_t *record = content_of(&buffers->task), *slots = content_of(&buffers->slots);
+    int64_t reported = fiddlequill_signed(get_number(content_of(&buffers->reply) + MARGIN_AT, 4));
+    struct task task = task_of_bytes(in->task);
+    struct strips strips = strips_of_task(&task);
+    struct wheel wheel;
+    wheel_of_task(&wheel, &task, in->slots);
+    uint64_t q = 1 + below(rng, Q_MAX), p = below(rng, 3 * q * task.w);
+    int64_t bound = (int64_t)q * reported, margin = margin_at(&wheel, &strips, q, p);
+    uint64_t asked = fiddlequill_margin(record, in->task_len, slots, in->slots_len, 2 * (uint64_t)least->first);
+    tally->met[FRACTION_NEAR] += q > 3 && margin > bound && margin < bound + (int64_t)q;
+    if (least->ticks > 0 && margin_at(&wheel, &strips, 1, least->first) == reported && margin >= bound &&
+        fiddlequill_number(asked) == 0 && fiddlequill_signed(fiddlequill_value(asked)) == 2 * reported)
+        return true;
+    printf("  reported least margin %" PRId64 "; by definition %" PRId64 " sixths of a tick, had by %" PRIu32
+           " whole ticks, first %" PRIu32 ", where the archive has the margin %#" PRIx64 "; at %" PRIu64 "/%" PRIu64
+           " it is %" PRId64 "\n",
+           reported, least->sixths, least->ticks, least->first, asked, p, q, margin);
+    return false;
+}
+
 /* Each answer of a site against the archive's own single one, from the very bytes that the site lent. */
 static bool answers_hold(const struct lent_buffers *buffers)
 {
@@ -238,11 +275,11 @@ static bool of_table(uint32_t number)
 }
 
 /* Whether a call says of the table what which slot says; a short reply is refused before the table is looked at. */
-static bool refused_alike(enum kind kind, uint32_t number, uint32_t which)
+static bool refused_alike(const char *call, uint32_t number, uint32_t which)
 {
     if (number == 2 ? which != 1 : which == (of_table(number) ? number : 0))
         return true;
-    printf("  %s gives refusal %" PRIu32 ", which slot %" PRIu32 "\n", kind_names[kind], number, which);
+    printf("  %s gives refusal %" PRIu32 ", which slot %" PRIu32 "\n", call, number, which);
     return false;
 }
 
@@ -253,19 +290,41 @@ static bool which_slot_holds(const struct input *in, const struct lent_buffers *
                                             in->slots_len);
     uint64_t defined = definition_which_slot(in->task, in->task_len, in->slots, in->slots_len);
     if (which == defined)
-        return refused_alike(in->kind, number, fiddlequill_number(which));
+        return refused_alike(kind_names[in->kind], number, fiddlequill_number(which));
     printf("  which slot gives %#" PRIx64 ", by definition %#" PRIx64 "\n", which, defined);
     return false;
 }
 
-/* Judging and counting, of those that were lent for which slot. */
-static bool judging_and_counting_hold(const struct input *in, const struct lent_buffers *buffers, uint32_t number)
+/* The supply and the margin, of those that were lent for counting; rule 3 drops where the margin is below zero. */
+static bool point_holds(const struct input *in, const struct expected *expected, const struct lent_buffers *buffers)
+{
+    const uint8_t *task = content_of(&buffers->task), *slots = content_of(&buffers->slots);
+    uint64_t supply = fiddlequill_supply(task, in->task_len, slots, in->slots_len, in->offset);
+    uint64_t margin = fiddlequill_margin(task, in->task_len, slots, in->slots_len, in->offset);
+    uint64_t dropped = definition_drop_test(in->task, in->task_len, in->slots, in->slots_len, in->offset);
+    bool below_zero = fiddlequill_signed(fiddlequill_value(margin)) < 0;
+    if (supply == expected->supply && margin == expected->margin && below_zero == (fiddlequill_value(dropped) == 1) &&
+        buffers_hold(in, expected, buffers))
+        return true;
+    printf("  supply %#" PRIx64 ", by definition %#" PRIx64 "; margin %#" PRIx64 ", by definition %#" PRIx64
+           "; dropped by definition: %" PRIu32 "; lent buffers %s\n",
+           supply, expected->supply, margin, expected->margin, fiddlequill_value(dropped),
+           buffers_hold(in, expected, buffers) ? "as they were" : "WRITTEN");
+    return false;
+}
+
+/* Every other call, of those that were lent for which slot. */
+static bool others_refuse_alike(const struct input *in, const struct lent_buffers *buffers, uint32_t number)
 {
     const uint8_t *task = content_of(&buffers->task), *slots = content_of(&buffers->slots);
     uint8_t answer[ANSWER_BYTES];
     uint32_t judged = fiddlequill_judge(task, in->task_len, slots, in->slots_len, answer, sizeof answer);
-    uint64_t counted = fiddlequill_count(task, in->task_len, slots, in->slots_len, in->offset);
-    return refused_alike(JUDGE, judged, number) && refused_alike(COUNT, fiddlequill_number(counted), number);
+    uint64_t count = fiddlequill_count(task, in->task_len, slots, in->slots_len, in->offset);
+    uint64_t supply = fiddlequill_supply(task, in->task_len, slots, in->slots_len, in->offset);
+    uint64_t margin = fiddlequill_margin(task, in->task_len, slots, in->slots_len, in->offset);
+    return refused_alike("judge", judged, number) && refused_alike("count", fiddlequill_number(count), number) &&
+           refused_alike("supply", fiddlequill_number(supply), number) &&
+           refused_alike("margin", fiddlequill_number(margin), number);
 }
 
 /* Refusal 13 speaks of any set, not only of the first j free slots. */
@@ -284,19 +343,21 @@ static bool no_set_holds(const struct input *in, struct tally *tally)
 }
 
 /* What else the archive must say of an input, beside what the definition says of its own call. */
-static bool others_hold(const struct input *in, const struct lent_buffers *buffers, uint64_t result,
+static bool others_hold(const struct input *in, const struct expected *expected, const struct lent_buffers *buffers,
                         struct tally *tally, struct rng *rng)
 {
+    const uint64_t result = expected->result;
     switch (in->kind) {
     case JUDGE:
         return which_slot_holds(in, buffers, (uint32_t)result) &&
-               (result != 0 || worst_holds(in, buffers, tally, rng));
+               (result != 0 || (worst_holds(in, buffers, tally, rng) &&
+                                least_holds(in, &expected->verdict.least, buffers, tally, rng)));
     case COUNT:
-        return which_slot_holds(in, buffers, fiddlequill_number(result));
+        return which_slot_holds(in, buffers, fiddlequill_number(result)) && point_holds(in, expected, buffers);
     case SITE:
         return result != 0 || answers_hold(buffers);
     case WHICH:
-        return judging_and_counting_hold(in, buffers, fiddlequill_number(result));
+        return others_refuse_alike(in, buffers, fiddlequill_number(result));
     default:
         return fiddlequill_number(result) != 13 || no_set_holds(in, tally);
     }
@@ -312,7 +373,7 @@ static bool agree(const struct input *in, struct lent_buffers *buffers, struct t
     bool same = result == expected.result && buffers_hold(in, &expected, buffers);
     if (!same)
         print_outcome(in, &expected, buffers, result);
-    same = same && others_hold(in, buffers, result, tally, rng);
+    same = same && others_hold(in, &expected, buffers, tally, rng);
     if (!same)
         print_input(in);
     return same;
@@ -325,8 +386,20 @@ static bool said_by_definition(const struct input *in, const struct expected *sa
 {
     struct expected expected = {0};
     define(in, &expected);
-    return expected.result == said->result && memcmp(expected.reply, said->reply, SITE_REPLY_ROOM) == 0 &&
+    return expected.result == said->result && expected.supply == said->supply && expected.margin == said->margin &&
+           memcmp(expected.reply, said->reply, SITE_REPLY_ROOM) == 0 &&
            memcmp(expected.marks, said->marks, MARKS_ROOM) == 0;
+}
+
+static bool hand_bits_agree(void)
+{
+    for (size_t i = 0; i < HAND_BITS; i++)
+        if (fiddlequill_signed(hand_bits[i].bits) != hand_bits[i].margin) {
+            printf("second: the bits %#" PRIx32 " aren't read as %" PRId32 "\n", hand_bits[i].bits,
+                   hand_bits[i].margin);
+            return false;
+        }
+    return true;
 }
 
 static bool hand_cases_agree(struct input *in, struct lent_buffers *buffers)
@@ -342,7 +415,7 @@ static bool hand_cases_agree(struct input *in, struct lent_buffers *buffers)
             return false;
         }
     }
-    printf("second: %zu cases by hand as printed\n", hand_count());
+    printf("second: %zu cases by hand as printed\n", hand_count() + HAND_BITS);
     return true;
 }
 
@@ -388,7 +461,7 @@ static bool seeded_inputs_agree(struct input *in, struct lent_buffers *buffers, 
 static bool run(struct input *in, struct lent_buffers *buffers, uint64_t inputs, uint64_t seed)
 {
     struct tally tally = {0};
-    if (!hand_cases_agree(in, buffers) || !long_site_agrees() ||
+    if (!hand_bits_agree() || !hand_cases_agree(in, buffers) || !long_site_agrees() ||
         !seeded_inputs_agree(in, buffers, &tally, inputs, seed))
         return false;
     unsigned never = tally_print(&tally);

@@ -95,6 +95,20 @@ static void *count(void *context)
     return NULL;
 }
 
+static void *supply(void *context)
+{
+    struct biggest *b = context;
+    b->number = fiddlequill_number(fiddlequill_supply(b->task, sizeof b->task, b->slots, sizeof b->slots, 1));
+    return NULL;
+}
+
+static void *margin(void *context)
+{
+    struct biggest *b = context;
+    b->number = fiddlequill_number(fiddlequill_margin(b->task, sizeof b->task, b->slots, sizeof b->slots, 1));
+    return NULL;
+}
+
 static void *grant(void *context)
 {
     struct biggest *b = context;
@@ -138,7 +152,8 @@ int main(void)
     static const struct {
         const char *name;
         void *(*call)(void *);
-    } calls[] = {{"judge", judge}, {"site", site}, {"which slot", which_slot}, {"count", count}, {"grant", grant}};
+    } calls[] = {{"judge", judge}, {"site", site},     {"which slot", which_slot}, {"count", count},
+                 {"supply", supply}, {"margin", margin}, {"grant", grant}};
     static const uint32_t wheels[] = {128, 1280, 4096, FIDDLEQUILL_WHEEL_MAX};
     size_t deepest = 0;
     for (size_t i = 0; i < sizeof calls / sizeof *calls; i++)

@@ -40,6 +40,16 @@ static void note_place(struct tally *tally, enum kind kind, const uint8_t *recor
     tally->places[kind][number - ABOUT_SLOT][where]++;
 }
 
+static uint32_t start_of(const struct input *input, size_t record)
+{
+    return get_number(input->slots + record * SLOT_BYTES, 4);
+}
+
+static uint32_t end_of(const struct input *input, size_t record)
+{
+    return get_number(input->slots + record * SLOT_BYTES + 4, 4);
+}
+
 /* ---- tasks ---- */
 
 static void add_table(struct tally *tally, const struct task *task, const struct input *input)
@@ -76,6 +86,41 @@ static void add_accepted(struct tally *tally, const struct task *task)
     note(tally, NONE_PAINTED, task->m == 0);
 }
 
+/* What whole turns and a rest of the deadline have to do with the need. */
+struct turns {
+    bool give, lack; /* the turns alone give more than e; with a full rest they would lack some of it */
+};
+
+static struct turns turns_of(const struct task *task, const struct input *input)
+{
+    uint64_t inside = 0, rest = task->D % task->w;
+    for (uint32_t i = 0; i < task->count; i++)
+        inside += end_of(input, task->first + i) - start_of(input, task->first + i);
+    uint64_t turns = task->D / task->w * inside;
+    bool both = turns > 0 && rest > 0;
+    return (struct turns){both && turns > task->e, both && turns + rest < task->e};
+}
+
+static void add_least(struct tally *tally, const struct task *task, const struct input *input,
+                      const struct verdict *verdict)
+{
+    const int64_t margin = verdict->least.sixths / 6;
+    const bool lone = verdict->least.ticks == 1 && !verdict->least.shared;
+    struct turns turns = turns_of(task, input);
+    note(tally, LEAST_BELOW, margin < 0);
+    note(tally, LEAST_ZERO, margin == 0);
+    note(tally, LEAST_ABOVE, margin > 0);
+    note(tally, LEAST_LONE_BELOW, lone && margin < 0);
+    note(tally, LEAST_LONE_ZERO, lone && margin == 0);
+    note(tally, LEAST_LONE_ABOVE, lone && margin > 0);
+    note(tally, LEAST_WIDE_BELOW, margin < -65536);
+    note(tally, LEAST_WIDE_ABOVE, margin > 65535);
+    note(tally, LEAST_IN_TURNS, turns.give);
+    note(tally, LEAST_PAST_TURNS, turns.lack);
+    note(tally, LEAST_OVER_D, task->e > task->D + 1);
+    note(tally, LEAST_FIRM, verdict->firm && margin < 0);
+}
+
 static void add_judged(struct tally *tally, const struct task *task, const struct input *input,
                        const struct verdict *verdict)
 {
@@ -93,10 +138,12 @@ static void add_judged(struct tally *tally, const struct task *task, const struc
     note(tally, EQUAL_SUPPLY, verdict->equal_supply);
     note(tally, WIDE_COUNT, verdict->worst > 255 && some);
     note(tally, COUNT_256, verdict->worst == 256);
+    note(tally, EXACT_REPLY, input->reply_len == ANSWER_BYTES);
     note(tally, LONG_REPLY, input->reply_len == ANSWER_BYTES + 1);
     note(tally, LARGE_WHEEL, task->w > WHEEL_MAX / 2 && some);
     note(tally, MANY_STRIPS, task->k > STRIPS_MAX / 2 && some);
     note_edge(tally, task->w, edge_use_of(task), verdict->worst > 0);
+    add_least(tally, task, input, verdict);
 }
 
 static void add_counted(struct tally *tally, const struct task *task, const struct input *input, uint64_t count)
@@ -112,6 +159,31 @@ static void add_counted(struct tally *tally, const struct task *task, const stru
     note_edge(tally, task->w, EDGE_COUNT, count > 0);
 }
 
+static void add_point(struct tally *tally, const struct task *task, const struct input *input,
+                      const struct expected *expected)
+{
+    const uint64_t supply = expected->supply;
+    const int64_t margin = (int64_t)supply - 2 * (int64_t)task->e;
+    const bool even = input->offset % 2 == 0;
+    struct turns turns = turns_of(task, input);
+    note(tally, MARGIN_BELOW_EVEN, even && margin < 0);
+    note(tally, MARGIN_ZERO_EVEN, even && margin == 0);
+    note(tally, MARGIN_ABOVE_EVEN, even && margin > 0);
+    note(tally, MARGIN_BELOW_ODD, !even && margin < 0);
+    note(tally, MARGIN_ZERO_ODD, !even && margin == 0);
+    note(tally, MARGIN_ABOVE_ODD, !even && margin > 0);
+    note(tally, MARGIN_JUST_BELOW, margin == -1);
+    note(tally, MARGIN_JUST_ABOVE, margin == 1);
+    note(tally, MARGIN_WIDE_BELOW, margin < -65536);
+    note(tally, MARGIN_IN_TURNS, turns.give);
+    note(tally, MARGIN_PAST_TURNS, turns.lack);
+    note(tally, MARGIN_OVER_D, task->e > task->D + 1);
+    note(tally, SUPPLIED_NONE, supply == 0);
+    note(tally, SUPPLIED_FULL, supply == 2 * (uint64_t)task->D);
+    note(tally, SUPPLIED_HALF, supply % 2 == 1);
+    note(tally, SUPPLIED_WIDE, supply > 65535);
+}
+
 static void add_sizes(struct tally *tally, const struct input *input, uint32_t number)
 {
     note(tally, TASK_EMPTY, input->task_len == 0);
@@ -119,7 +191,8 @@ static void add_sizes(struct tally *tally, const struct input *input, uint32_t n
     note(tally, TASK_33, input->task_len == TASK_BYTES + 1);
     note(tally, SLOTS_ODD, input->slots_len % SLOT_BYTES != 0 && input->task_len == TASK_BYTES);
     note(tally, REPLY_EMPTY, number == 2 && input->reply_len == 0);
-    note(tally, REPLY_15, number == 2 && input->reply_len == ANSWER_BYTES - 1);
+    note(tally, REPLY_SHORT, number == 2 && input->reply_len == ANSWER_BYTES - 1);
+    note(tally, REPLY_NO_MARGIN, number == 2 && input->reply_len == MARGIN_AT);
 }
 
 /* Which slot, if the task had no more than its first 64: is it their number alone that is refused? */
@@ -166,10 +239,12 @@ static void add_task(struct tally *tally, const struct input *input, const struc
     }
     add_table(tally, &task, input);
     add_accepted(tally, &task);
-    if (input->kind == JUDGE)
+    if (input->kind == JUDGE) {
         add_judged(tally, &task, input, &expected->verdict);
-    else
+    } else {
         add_counted(tally, &task, input, expected->result);
+        add_point(tally, &task, input, expected);
+    }
 }
 
 /* ---- grants ---- */
@@ -243,13 +318,14 @@ static void add_grant(struct tally *tally, const struct input *input, const stru
 struct sign {
     struct task task;
     uint32_t number, worst;
+    uint32_t margin; /* in two's complement */
 };
 
 static struct sign sign_of(const struct input *input, const struct expected *expected, size_t i)
 {
     const uint8_t *answer = expected->reply + i * ANSWER_BYTES;
     return (struct sign){task_of_bytes(input->task + i * TASK_BYTES), get_number(answer + 4, 2),
-                         get_number(answer + 8, 4)};
+                         get_number(answer + 8, 4), get_number(answer + MARGIN_AT, 4)};
 }
 
 /* Arrays are taken in sizes; which of them would a wheel take? */
@@ -319,6 +395,19 @@ static void add_wheels(struct tally *tally, const struct sign *signs, size_t n)
     note(tally, SITE_PAST_WHEEL, past_before);
 }
 
+static void add_margins(struct tally *tally, const struct sign *signs, size_t n)
+{
+    bool below_zero = false, zero = false, above_zero = false;
+    for (size_t i = 0; i < n; i++) {
+        bool good = signs[i].number == 0, negative = signs[i].margin > INT32_MAX;
+        below_zero |= good && negative;
+        zero |= good && signs[i].margin == 0;
+        above_zero |= good && !negative && signs[i].margin > 0;
+        note(tally, SITE_MARGIN_NEXT, i > 0 && !good && signs[i - 1].margin != 0);
+    }
+    note(tally, SITE_MARGINS, below_zero && zero && above_zero);
+}
+
 static void add_signs(struct tally *tally, const struct input *input, const struct sign *signs, size_t n)
 {
     size_t good = 0;
@@ -347,6 +436,7 @@ static void add_answered_site(struct tally *tally, const struct input *input, co
         signs[i] = sign_of(input, expected, i);
     add_signs(tally, input, signs, n);
     add_wheels(tally, signs, n);
+    add_margins(tally, signs, n);
     note(tally, SITE_EMPTY, n == 0);
     note(tally, SITE_EMPTY_SLOTS, n == 0 && input->slots_len > 0);
     note(tally, SITE_EMPTY_REPLY, n == 0 && spare > 0);
@@ -372,16 +462,6 @@ static void add_refused_site(struct tally *tally, const struct input *input, uin
 }
 
 /* ---- which slot ---- */
-
-static uint32_t start_of(const struct input *input, size_t record)
-{
-    return get_number(input->slots + record * SLOT_BYTES, 4);
-}
-
-static uint32_t end_of(const struct input *input, size_t record)
-{
-    return get_number(input->slots + record * SLOT_BYTES + 4, 4);
-}
 
 static void add_strangers(struct tally *tally, const struct task *task, const struct input *input)
 {

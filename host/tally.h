@@ -13,6 +13,7 @@ enum slot_place { FIRST_PLACE, MIDDLE_PLACE, LAST_PLACE, SLOT_PLACES };
 /* What should come out, by definition. */
 struct expected {
     uint64_t result; /* as the call returns it: plain for judging a task or a site, packed otherwise */
+    uint64_t supply, margin; /* packed, at the offset of a count */
     uint8_t reply[SITE_REPLY_ROOM], marks[MARKS_ROOM];
     struct verdict verdict; /* of an accepted judging */
 };
@@ -32,7 +33,21 @@ struct expected {
     X(FRACTION, "judged: a p/q with q above 2 and drops tried")                                                        \
     X(WIDE_COUNT, "judged: more than 255 strips drop, not all")                                                        \
     X(COUNT_256, "judged: exactly 256 strips drop")                                                                    \
-    X(LONG_REPLY, "judged: a reply of 17 bytes")                                                                       \
+    X(LEAST_BELOW, "judged: a least margin below zero")                                                                \
+    X(LEAST_ZERO, "judged: a least margin of zero")                                                                    \
+    X(LEAST_ABOVE, "judged: a least margin above zero")                                                                \
+    X(LEAST_LONE_BELOW, "judged: a least margin below zero that one whole tick has, and no odd half tick")             \
+    X(LEAST_LONE_ZERO, "judged: a least margin of zero that one whole tick has, and no odd half tick")                 \
+    X(LEAST_LONE_ABOVE, "judged: a least margin above zero that one whole tick has, and no odd half tick")             \
+    X(LEAST_WIDE_BELOW, "judged: a least margin below -65,536")                                                        \
+    X(LEAST_WIDE_ABOVE, "judged: a least margin above 65,535")                                                         \
+    X(LEAST_IN_TURNS, "judged: D of whole turns and a rest, and the turns alone give more than e")                     \
+    X(LEAST_PAST_TURNS, "judged: D of whole turns and a rest, and e is more than both could give")                     \
+    X(LEAST_OVER_D, "judged: e above D by two ticks or more")                                                          \
+    X(LEAST_FIRM, "judged: firm with a least margin below zero")                                                       \
+    X(FRACTION_NEAR, "judged: a p/q with q above 3 tried, less than a tick above the least margin")                    \
+    X(EXACT_REPLY, "judged: a reply of just an answer record")                                                         \
+    X(LONG_REPLY, "judged: a reply one byte longer")                                                                   \
     X(LARGE_WHEEL, "judged: w above 8,192 and some strips drop")                                                       \
     X(MANY_STRIPS, "judged: k above 512 and some strips drop")                                                         \
     X(NO_SLOTS, "accepted: no slots")                                                                                  \
@@ -57,7 +72,8 @@ struct expected {
     X(TASK_33, "refused 1: a task of 33 bytes")                                                                        \
     X(SLOTS_ODD, "refused 1: slots not a multiple of 8")                                                               \
     X(REPLY_EMPTY, "refused 2: a reply of 0 bytes")                                                                    \
-    X(REPLY_15, "refused 2: a reply of 15 bytes")                                                                      \
+    X(REPLY_SHORT, "refused 2: a reply one byte short")                                                                \
+    X(REPLY_NO_MARGIN, "refused 2: a reply with room for all but the margin")                                          \
     X(ONE_BEYOND, "refused 3: first + count one over the end")                                                         \
     X(SUM_WIDE, "refused 3: first + count above 65,535 whose low 16 bits would do")                                    \
     X(ONES, "refused 3: a task of all ones")                                                                           \
@@ -78,6 +94,22 @@ struct expected {
     X(COUNTED_OVER, "counted: whole turns of strips and some over, some drop, not all")                                \
     X(COUNTED_ODD, "counted: drops from an odd half tick")                                                             \
     X(LAST_OFFSET, "counted: offset 2w - 1")                                                                           \
+    X(MARGIN_BELOW_EVEN, "margin: below zero at a whole tick")                                                         \
+    X(MARGIN_ZERO_EVEN, "margin: zero at a whole tick")                                                                \
+    X(MARGIN_ABOVE_EVEN, "margin: above zero at a whole tick")                                                         \
+    X(MARGIN_BELOW_ODD, "margin: below zero at an odd half tick")                                                      \
+    X(MARGIN_ZERO_ODD, "margin: zero at an odd half tick")                                                             \
+    X(MARGIN_ABOVE_ODD, "margin: above zero at an odd half tick")                                                      \
+    X(MARGIN_JUST_BELOW, "margin: half a tick below zero")                                                             \
+    X(MARGIN_JUST_ABOVE, "margin: half a tick above zero")                                                             \
+    X(MARGIN_WIDE_BELOW, "margin: below -65,536 half ticks")                                                           \
+    X(MARGIN_IN_TURNS, "margin: D of whole turns and a rest, and the turns alone give more than e")                    \
+    X(MARGIN_PAST_TURNS, "margin: D of whole turns and a rest, and e is more than both could give")                    \
+    X(MARGIN_OVER_D, "margin: e above D by two ticks or more")                                                         \
+    X(SUPPLIED_NONE, "supply: 0")                                                                                      \
+    X(SUPPLIED_FULL, "supply: 2D")                                                                                     \
+    X(SUPPLIED_HALF, "supply: an odd number of half ticks")                                                            \
+    X(SUPPLIED_WIDE, "supply: above 65,535 half ticks")                                                                \
     X(PAST_OFFSET, "refused 11: offset 2w")                                                                            \
     X(WIDE_OFFSET, "refused 11: an offset above 2^32 whose low half would do")                                         \
     X(GRANT_NONE, "granted: no slots")                                                                                 \
@@ -121,6 +153,8 @@ struct expected {
     X(SITE_SHARED, "site: two accepted tasks share slots")                                                             \
     X(SITE_TWICE, "site: an accepted record twice")                                                                    \
     X(SITE_BARE, "site: an accepted record and no slot records")                                                       \
+    X(SITE_MARGINS, "site: least margins below zero, zero and above zero")                                             \
+    X(SITE_MARGIN_NEXT, "site: a refused record right behind a least margin other than zero")                          \
     X(SITE_LONG_REPLY, "site: a reply one byte longer")                                                                \
     X(SITE_LONGER_REPLY, "site: a reply longer by an answer or more")                                                  \
     X(SITE_31, "site refused 1: tasks of 31 bytes")                                                                    \

@@ -10,15 +10,18 @@
  * offset of the first strip, fractions of a tick included:
  *
  *   fiddlequill_judge        how many of k strips drop at worst, from which
- *                            offset, and whether at least m of k are always
- *                            painted (firm)
+ *                            offset, whether at least m of k are always
+ *                            painted (firm), and how near it came (the least
+ *                            margin)
  *   fiddlequill_site         the same for every task of a site, in one call
  *   fiddlequill_which_slot   which slot of a task is bad, and why
  *   fiddlequill_count        how many of k strips drop from one given offset
+ *   fiddlequill_supply       the slot time that a strip at one given offset gets
+ *   fiddlequill_margin       that time minus the strip's need, signed
  *   fiddlequill_grant        how many free slots, taken in number order, make
  *                            a task firm; it marks them
  *
- * All five calls fail in one way: they refuse with a number from 1 to 17 and
+ * All seven calls fail in one way: they refuse with a number from 1 to 17 and
  * 0 stands for success. Every input gets an answer or a refusal; no content of
  * a buffer is undefined behaviour. What the caller must provide is memory: each
  * pointer has as many readable (reply, marks: writable) bytes as its length
@@ -62,7 +65,7 @@ extern "C" {
 
 #define FIDDLEQUILL_TASK_BYTES 32u
 #define FIDDLEQUILL_SLOT_BYTES 8u
-#define FIDDLEQUILL_ANSWER_BYTES 16u
+#define FIDDLEQUILL_ANSWER_BYTES 20u
 
 /* ---- refusals ---- */
 
@@ -88,7 +91,7 @@ enum fiddlequill_refusal {
     FIDDLEQUILL_EARLY_SLOT = 17       /* a slot's start is below the end of the task's slot before it */
 };
 
-/* ---- records: no header, unsigned, little endian, no padding ---- */
+/* ---- records: no header, little endian, no padding, unsigned but for the margin ---- */
 
 /*
  * Task record, 32 bytes
@@ -111,13 +114,22 @@ enum fiddlequill_refusal {
  *   slots is a good one. Records outside first .. first + count - 1 aren't
  *   looked at.
  *
- * Answer record, 16 bytes
+ * Answer record, 20 bytes
  *        0      4  id      as in the task
  *        4      2  number  the refusal, 0 for none
  *        6      2  firm    1 when the worst count is at most k - m, else 0
  *        8      4  worst   the largest count of drops over all offsets
  *       12      4  offset  the smallest half tick below 2w with that count
- *   In a refused task's answer firm, worst and offset are 0.
+ *       16      4  margin  the least margin of a strip over all offsets, in whole
+ *                          ticks; signed, in two's complement
+ *                          (fiddlequill_signed)
+ *   In a refused task's answer firm, worst, offset and margin are 0.
+ *   A strip's margin is its supply minus its need: below zero it is dropped, at
+ *   zero it is painted. The least margin is at least 0 exactly when no offset
+ *   drops a strip. If it is g, at least 0, the need may still grow by g ticks
+ *   before a strip drops, and by no tick more; if it is -g, some strip lacks g
+ *   ticks and none lacks more. It tells nothing of m and k: a table may be firm
+ *   with a margin below zero.
  */
 
 /* ---- calls ---- */
@@ -132,12 +144,12 @@ enum fiddlequill_refusal {
  * Refusals in checking order, and what each writes:
  *   1, 2                       nothing
  *   3, 4, 14, then slot by slot 15, 16, 17, then 6, 7, 8, 9, 10
- *                              reply[0..15]: id, the number, zeros
- *   0                          reply[0..15]: the whole answer
- * Never written: reply[16] and beyond, task, slots.
+ *                              reply[0..19]: id, the number, zeros
+ *   0                          reply[0..19]: the whole answer
+ * Never written: reply[20] and beyond, task, slots.
  *
  * Success is certain when task_len is 32, slots_len a multiple of 8, reply_len
- * at least 16, first + count within the slot records, every slot fits, and each
+ * at least 20, first + count within the slot records, every slot fits, and each
  * field is in the range given at the task record.
  */
 FIDDLEQUILL_CHECK
@@ -157,13 +169,14 @@ uint32_t fiddlequill_judge(const uint8_t *task, size_t task_len,
  * Refusals in checking order, and what each writes:
  *   1   tasks_len isn't a multiple of 32, or slots_len isn't one of 8 (looked at
  *       also where there are no tasks): nothing
- *   2   reply_len is below 16 bytes for each task: nothing
- *   0   reply[16 * i .. 16 * i + 15] for each task i, counted from 0: exactly
+ *   2   reply_len is below 20 bytes for each task: nothing
+ *   0   reply[20 * i .. 20 * i + 19] for each task i, counted from 0: exactly
  *       the bytes that fiddlequill_judge of that record alone would write
  * Never written: the reply past the last answer, tasks, slots.
  *
  * Success is certain when tasks_len is a multiple of 32, slots_len a multiple
- * of 8, and reply_len at least half of tasks_len, whatever the records hold.
+ * of 8, and reply_len at least 20 bytes for each 32 of tasks_len, whatever the
+ * records hold.
  *
  * For a site of up to 100 signs:
  *
@@ -226,7 +239,7 @@ uint64_t fiddlequill_which_slot(const uint8_t *task, size_t task_len,
  * bad one is refused all the same.) All 64 bits of the offset are looked at.
  * Never written: anything.
  *
- * Success is certain when judging the same task and slots with a reply of 16
+ * Success is certain when judging the same task and slots with a reply of 20
  * bytes succeeds and offset is below 2w. The count is at most the judged worst
  * count, and equals it at the judged worst offset.
  */
@@ -234,6 +247,42 @@ FIDDLEQUILL_CHECK
 uint64_t fiddlequill_count(const uint8_t *task, size_t task_len,
                            const uint8_t *slots, size_t slots_len,
                            uint64_t offset);
+
+/*
+ * Gives the supply of a strip that arrives at `offset`, in half ticks: the slot
+ * time within D ticks of its arrival, also counted in half ticks, 0 to 2D.
+ * Packed with the refusal number like fiddlequill_count's result.
+ *
+ * Refusals, and when success is certain, as for fiddlequill_count; each refusal
+ * comes with supply 0. Never written: anything.
+ */
+FIDDLEQUILL_CHECK
+uint64_t fiddlequill_supply(const uint8_t *task, size_t task_len,
+                            const uint8_t *slots, size_t slots_len,
+                            uint64_t offset);
+
+/*
+ * Gives the margin of a strip that arrives at `offset`, in half ticks: its
+ * supply minus its need, counted in half ticks, -2e to 2D - 2e. Below zero the
+ * strip is dropped. Packed with the refusal number like fiddlequill_count's
+ * result, in two's complement: fiddlequill_signed gives it back.
+ *
+ * Refusals, and when success is certain, as for fiddlequill_count; each refusal
+ * comes with margin 0, so look at the number first. Never written: anything.
+ *
+ *   uint64_t result = fiddlequill_margin(task, FIDDLEQUILL_TASK_BYTES,
+ *                                        slots, slots_len, 9);
+ *   if (fiddlequill_number(result) == FIDDLEQUILL_OK &&
+ *       fiddlequill_signed(fiddlequill_value(result)) < 0)
+ *       puts("a strip at half tick 9 is dropped");
+ *
+ * No offset has a smaller margin than twice the judged least margin, and some
+ * even offset, a whole tick, has just that.
+ */
+FIDDLEQUILL_CHECK
+uint64_t fiddlequill_margin(const uint8_t *task, size_t task_len,
+                            const uint8_t *slots, size_t slots_len,
+                            uint64_t offset);
 
 /*
  * Grants a task the first j free slots of a wheel of N equal slots, with the
@@ -270,11 +319,19 @@ static inline uint32_t fiddlequill_number(uint64_t packed)
     return (uint32_t)(packed >> 32);
 }
 
-/* The count, the granted slots or the bad slot's place in a packed result; 0
- * beside a refusal that is about no single slot. */
+/* The count, the supply, the granted slots or the bad slot's place in a packed
+ * result, or the margin in two's complement; 0 beside a refusal that is about no
+ * single slot. */
 static inline uint32_t fiddlequill_value(uint64_t packed)
 {
     return (uint32_t)(packed & 0xffffffffu);
+}
+
+/* A margin as a signed number, from the 32 bits in which a packed result or an
+ * answer record has it. */
+static inline int32_t fiddlequill_signed(uint32_t bits)
+{
+    return bits <= 0x7fffffffu ? (int32_t)bits : -(int32_t)(0xffffffffu - bits) - 1;
 }
 
 /* Whether a refusal is about one slot: 1 for 15 to 17, else 0. */
@@ -292,7 +349,7 @@ static inline const char *fiddlequill_meaning(uint32_t number)
     case FIDDLEQUILL_BAD_LENGTH:
         return "the task isn't 32 bytes long (a site: a multiple of 32), or the slots aren't a multiple of 8 bytes";
     case FIDDLEQUILL_SHORT_REPLY:
-        return "the reply buffer is shorter than 16 bytes for each task";
+        return "the reply buffer is shorter than 20 bytes for each task";
     case FIDDLEQUILL_BEYOND_SLOTS:
         return "first + count goes beyond the last slot record";
     case FIDDLEQUILL_BAD_WHEEL:

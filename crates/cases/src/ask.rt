@@ -19,21 +19,19 @@ pub fn count(name: &[u8], a: Asked, slots: &[u8], offset: u64) {
     crate::print::text(b"\n");
 }
 
-// At a half tick: the supply, and whether a strip is dropped.
+// At a half tick: the supply, and the margin.
 pub fn supply(name: &[u8], a: Asked, slots: &[u8], offset: u64) {
     let task = crate::build::task(a);
     let s = judge::supply(&task, slots, offset);
     crate::print::answer_from(b"supply ", name, offset, s.number);
     crate::print::text(b", supply ");
-    crate::print::number(s.supply);
-    let t = judge::drop_test(&task, slots, offset);
-    crate::print::text(b"; drop test: refusal ");
-    crate::print::number(t.number as u64);
-    if t.dropped {
-        crate::print::text(b", dropped\n");
-    } else {
-        crate::print::text(b", not dropped\n");
-    }
+    crate::print::number(s.supply as u64);
+    let g = judge::margin(&task, slots, offset);
+    crate::print::text(b"; margin: refusal ");
+    crate::print::number(g.number as u64);
+    crate::print::text(b", margin ");
+    crate::print::bits(octets::twos(g.margin));
+    crate::print::text(b"\n");
 }
 
 // Which slot is bad, and what about it.
@@ -58,6 +56,8 @@ fn record(reply: &[u8; REPLY]) {
     crate::print::number(octets::four(reply, 8) as u64);
     crate::print::text(b" at ");
     crate::print::number(octets::four(reply, 12) as u64);
+    crate::print::text(b", margin ");
+    crate::print::bits((octets::four(reply, 16) % 4294967296) as u32);
 }
 
 // Whether the bytes behind the record are those that were there.

@@ -26,3 +26,13 @@ pub fn answer_from(asked: &[u8], name: &[u8], offset: u64, refusal: u32) {
     text(b": refusal ");
     number(refusal as u64);
 }
+
+// A signed number, from its two's complement.
+pub fn bits(b: u32) {
+    if b < 2147483648 {
+        number(b as u64);
+    } else {
+        text(b"-");
+        number(4294967296 - b as u64);
+    }
+}

@@ -32,7 +32,7 @@ fn slot_sizes() {
 
 fn reply_size() {
     let board = build::slot(0, 8);
-    ask::judge_short(b"T, reply of 15 bytes", build::t(), &board);
+    ask::judge_short(b"T, reply of 19 bytes", build::t(), &board);
 }
 
 fn board() {

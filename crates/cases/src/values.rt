@@ -9,7 +9,7 @@ fn from(name: &[u8], offset: u64) {
     ask::count(name, build::t(), &board, offset);
 }
 
-// T's supply and drop test at a half tick.
+// T's supply and margin at a half tick.
 fn at(offset: u64) {
     let board = build::slot(0, 8);
     ask::supply(b"T", build::t(), &board, offset);
@@ -22,11 +22,19 @@ fn offsets() {
     from(b"P3, T", 10);
     from(b"P4, T", 19);
     from(b"T", 20);
-    at(8);
-    at(9);
-    at(10);
+    strips();
     at(19);
     at(20);
+}
+
+// P1 to P3's strips: the second arrives 28 half ticks after the first, 8 on the wheel.
+fn strips() {
+    at(8);
+    at(16);
+    at(9);
+    at(17);
+    at(10);
+    at(18);
 }
 
 fn firm_or_not() {

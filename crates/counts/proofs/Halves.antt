@@ -1,26 +1,25 @@
--- Supply and drop at half ticks of the wheel. Assumes nothing.
-use mathlib.Core.Path.{_≡_, sym, ap, _∙_}
+-- Supply and margin at half ticks of the wheel. Assumes nothing.
+use mathlib.Core.Path.{_≡_, sym, ap, subst, _∙_}
 use mathlib.Core.List.{List}
-use Prim.Native.Nat.{ℕ, _+_, _*_, _/_, _%_}
-use native.Mathlib.Nat.{mul-comm, div-add-mod}
+use Prim.Native.Nat.{ℕ, _+_, _*_, _/_, _%_, _<_}
 use native.Mathlib.Omega.{arith}
-use lib.Dec.{ltb}
+use lib.IntN.{pos, subℕ, _-ℤ_}
+use mir.Syntax.{w32}
+use mir.Val.{SFits, toZ, ofZ}
+use mir.ValLaws.{toZ-pos}
+use mir.Facts.{toZ-ofZ}
+use borrow.Author.Needs.{sfits-of}
 use Rattle.limits.specs.Limits.{asked}
 use Rattle.limits.specs.declared.Task.{Task}
 use Rattle.rules.specs.Sums.{Subset}
-use Rattle.rules.specs.Supply.{supply, dropped}
-use Rattle.rules.specs.Worst.{Wheel}
+use Rattle.rules.specs.Supply.{supply, margin}
+use Rattle.rules.proofs.Signed.{pos-minus, mag-sub}
 use Rattle.rules.proofs.Straight.{straight, supply-tick}
-use Rattle.rules.proofs.Step.{supply-turns}
+use Rattle.rules.proofs.Step.{supply-mod}
 use Rattle.counts.proofs.Along.{Counted}
 use Rattle.counts.proofs.Windows.{Window}
 
 -- ---- supply
-
-supply-wrap : (w : ℕ) (u : Subset) → Wheel w u → (d a : ℕ) → supply 1 u d (a % w) ≡ supply 1 u d a
-supply-wrap w u wheel d a =
-    let e : a ≡ a % w + 1 * (a / w * w) = omega (arith, div-add-mod a w, mul-comm w (a / w)) in
-    sym (ap (supply 1 u d) e ∙ supply-turns w u wheel 1 d (a / w) (a % w) (omega arith))
 
 abbrev pub Half : List ℕ → ℕ → ℕ → ℕ → ℕ → Type 0
 Half l w d x s = Counted l w (2 * d) (λ u. supply 2 u d x) s
@@ -41,13 +40,25 @@ half-odd l w d x s s′ here next odd = (
   omega (arith, here .0, next .0),
   λ u laid.
       let both : s + s′ ≡ 1 * supply 1 u d (x / 2) + 1 * supply 1 u d (x / 2 + 1) =
-      omega (arith, here .1 u laid, next .1 u laid ∙ supply-wrap w u (laid .wheel) d (x / 2 + 1)) in
+      omega (arith, here .1 u laid, next .1 u laid ∙ supply-mod w u (laid .wheel) d (x / 2 + 1)) in
       let whole : 2 * (x / 2) + 1 ≡ x = omega arith in
       both ∙ sym (straight u d (x / 2) 1 1 (omega arith)) ∙ ap (supply 2 u d) whole,
 )
 
--- ---- drop
+-- ---- margin
 
-pub drop-test : (u : Subset) (t : Task) (x s : ℕ) → s ≡ supply 2 u (t .d) x → ltb s (2 * t .e) ≡ dropped 2 u (asked t) x
-unfolding dropped
-drop-test u t x s e = ap (λ n. ltb n (2 * t .e)) e
+-- The difference of two numbers that 31 bits hold, as signed locals have it.
+module _ (s n : ℕ) (supplied : s < 2147483648) (needed : n < 2147483648) where
+  over-is : (toZ w32 s -ℤ toZ w32 n) ≡ subℕ s n
+  over-is =
+      ap (λ z. z -ℤ toZ w32 n) (toZ-pos w32 s supplied) ∙ ap (λ z. pos s -ℤ z) (toZ-pos w32 n needed) ∙ pos-minus s n
+
+  pub over-fits : SFits w32 (toZ w32 s -ℤ toZ w32 n)
+  over-fits = subst (SFits w32) (sym over-is) (sfits-of (mag-sub s n 2147483648 supplied (omega arith)))
+
+  pub over-back : toZ w32 (ofZ w32 (toZ w32 s -ℤ toZ w32 n)) ≡ subℕ s n
+  over-back = toZ-ofZ over-fits ∙ over-is
+
+pub margin-at : (u : Subset) (t : Task) (x s : ℕ) → s ≡ supply 2 u (t .d) x → subℕ s (2 * t .e) ≡ margin 2 u (asked t) x
+unfolding margin
+margin-at u t x s e = ap (λ n. subℕ n (2 * t .e)) e

@@ -1,9 +1,11 @@
-// Supply and the drop test at a half tick, from the runs of usable ticks alone: no buffer, and no walk along the wheel.
+// Supply and margin at a half tick, from the runs of usable ticks alone: no buffer, and no walk along the wheel.
 ghost use mathlib.Core.Path.{_≡_};
 ghost use Prim.Native.Nat.{_*_, _/_, _≤_, _<_};
-ghost use Rattle.limits.specs.Limits.{mostPeriod, asked, Within};
+ghost use lib.IntN.{pos, subℕ};
+ghost use lib.Signed.{ltZ};
+ghost use Rattle.limits.specs.Limits.{mostNeed, mostPeriod, asked, Within};
 ghost use Rattle.rules.specs.Sums.{Subset, number};
-ghost use Rattle.rules.specs.Supply.{supply, dropped};
+ghost use Rattle.rules.specs.Supply.{supply, margin};
 ghost use Rattle.runs.specs.Runs.{Laid, Runs};
 use limits::Task;
 
@@ -74,10 +76,25 @@ pub fn supply(runs: &[u16], w: usize, x: usize, d: usize) -> usize
     here + window(runs, w, (a + 1) % w, d)
 }
 
-// Whether a strip at half tick x is dropped (rule 3).
-pub fn dropped(runs: &[u16], w: usize, x: usize, task: Task) -> bool
-    requires { ⌜ Runs (now runs) w × (x < 2 * w) × Within task ⌝ }
-    ensures { λ r. ⌜ ((u : Subset) → Laid (now (runs .entry)) w u → r ≡ dropped 2 u (asked task) x) ⌝ }
+// Supply minus need, with its sign (rule 3).
+pub fn over(supply: usize, need: usize) -> i32
+    requires { ⌜ (supply ≤ 2 * mostPeriod) × (need ≤ 2 * mostNeed) ⌝ }
+    ensures { λ r. ⌜ r ≡ subℕ supply need ⌝ }
 {
-    supply(runs, w, x, task.d) < 2 * task.e
+    supply as i32 - need as i32
+}
+
+// The margin of a strip at half tick x, in half ticks.
+pub fn margin(runs: &[u16], w: usize, x: usize, task: Task) -> i32
+    requires { ⌜ Runs (now runs) w × (x < 2 * w) × Within task ⌝ }
+    ensures { λ r. ⌜ ((u : Subset) → Laid (now (runs .entry)) w u → r ≡ margin 2 u (asked task) x) ⌝ }
+{
+    over(supply(runs, w, x, task.d), 2 * task.e)
+}
+
+// Below zero means dropped (rule 3).
+pub fn dropped(margin: i32) -> bool
+    ensures { λ r. ⌜ r ≡ ltZ margin (pos 0) ⌝ }
+{
+    margin < 0
 }

@@ -2,7 +2,8 @@
 ghost use mathlib.Core.Path.{_≡_};
 ghost use Rattle.records.specs.Refusals.{pointRefusal};
 ghost use Rattle.judge.specs.Judge.{Judged};
-ghost use Rattle.judge.specs.Points.{countedAt};
+ghost use Rattle.octets.specs.Octets.{twos};
+ghost use Rattle.judge.specs.Points.{suppliedAt, marginAt, countedAt};
 ghost use Rattle.site.specs.Site.{Sited};
 ghost use Rattle.fiddlequill.specs.Packed.{packed, PackedWhich, PackedGrant};
 
@@ -45,6 +46,24 @@ pub extern "C" fn fiddlequill_count(task: &[u8], slots: &[u8], offset: u64) -> u
 {
     let counted = judge::count(task, slots, offset);
     pack(counted.number, counted.count)
+}
+
+// The supply at a half tick, in half ticks; the refusal number and the supply, packed.
+#[no_mangle]
+pub extern "C" fn fiddlequill_supply(task: &[u8], slots: &[u8], offset: u64) -> u64
+    ensures { λ r. ⌜ r ≡ packed (pointRefusal (now (task .entry)) (now (slots .entry)) offset) (suppliedAt (now (task .entry)) (now (slots .entry)) offset) ⌝ }
+{
+    let supplied = judge::supply(task, slots, offset);
+    pack(supplied.number, supplied.supply)
+}
+
+// The margin of a strip at a half tick, in half ticks; the refusal number and the margin's two's complement, packed.
+#[no_mangle]
+pub extern "C" fn fiddlequill_margin(task: &[u8], slots: &[u8], offset: u64) -> u64
+    ensures { λ r. ⌜ r ≡ packed (pointRefusal (now (task .entry)) (now (slots .entry)) offset) (twos (marginAt (now (task .entry)) (now (slots .entry)) offset)) ⌝ }
+{
+    let measured = judge::margin(task, slots, offset);
+    pack(measured.number, octets::twos(measured.margin))
 }
 
 // Grants the first free slots; the refusal number and how many were granted, packed. A grant turns their marks into 2.

@@ -12,6 +12,7 @@ use Rattle.rules.specs.Supply.{Task, supply, dropped, drops, count}
 use Rattle.rules.specs.Usable.{usable, grid, covers}
 use Rattle.rules.specs.Worst.{Firm}
 use Rattle.rules.specs.Grant.{first, gridTicks, Granted, NoChoice}
+use Rattle.rules.proofs.Step.{dropped-ltb}
 use Rattle.rules.proofs.Sums.{any-none, number-const, number-le}
 use Rattle.rules.proofs.More.{firm-mono}
 use Rattle.rules.proofs.Grants.{grid-mono, first-mono, no-choice}
@@ -73,13 +74,13 @@ module _ (l : List ℕ) (v : ℕ) (t : Task) where
       ∙ ap (λ b. b && inside) (and-false (freeOf l i)))
 
   empty-drops : 0 < t .e → (x : ℕ) → dropped 1 (gridTicks (length l) v (first (freeOf l) 0)) t x ≡ true
-  unfolding dropped supply bit
+  unfolding supply bit
   empty-drops need x =
       let none : number (λ i. gridTicks (length l) v (first (freeOf l) 0) ((x + i) / 1)) (1 * t .D) ≡ (1 * t .D) * 0 =
       number-const _ false (1 * t .D) (λ i less. empty-ticks ((x + i) / 1)) in
       let less : number (λ i. gridTicks (length l) v (first (freeOf l) 0) ((x + i) / 1)) (1 * t .D) < 1 * t .e =
       omega (arith, mul-zero (1 * t .D)) in
-      lt-ltb _ _ less
+      dropped-ltb 1 _ t x ∙ lt-ltb _ _ less
 
   pub nothing-firm : (all : ℕ) → all ≡ number (freeOf l) (length l) → (FirmAt all → ⊥) → NoChoice (length l) v (freeOf l) t
   nothing-firm all e not =

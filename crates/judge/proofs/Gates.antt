@@ -1,12 +1,12 @@
 -- The gate of the questions at a half tick, and what stands behind it. Assumes nothing.
 use mathlib.Core.Path.{_≡_, refl, sym, ap, subst, _∙_}
-use mathlib.Core.Bool.{Bool, false}
 use mathlib.Core.List.{List}
 use Prim.Native.Nat.{ℕ, zero, suc, _*_, _≤_, _<_}
 use native.Mathlib.Omega.{arith}
 use native.Mathlib.Nat.{zero-lt-suc}
 use borrow.Author.Tests.{le-leb, lt-leb, leb-false}
-use Rattle.rules.specs.Supply.{supply, dropped, count}
+use lib.IntN.{ℤ, pos}
+use Rattle.rules.specs.Supply.{supply, margin, count}
 use Rattle.limits.specs.Refusal.{ifNone}
 use Rattle.limits.specs.Limits.{asked}
 use Rattle.limits.proofs.Refusals.{at-first, at-next, none-left, none-right, when-true, when-false, when-none, both-none}
@@ -17,7 +17,7 @@ use Rattle.records.specs.declared.Job.{Job}
 use Rattle.records.specs.declared.Checked.the-variants.{Accepted, Refused}
 use Rattle.records.proofs.Checks.{checked-accepted, checked-refused}
 use Rattle.records.specs.Jobs.{Good, jobTicks}
-use Rattle.judge.specs.Points.{gated, suppliedAt, droppedAt, countedAt}
+use Rattle.judge.specs.Points.{gated, suppliedAt, marginAt, countedAt}
 use Rattle.judge.specs.declared.point.Gate.{Gate}
 use Rattle.judge.specs.declared.point.Gate.the-variants.{Open, Shut}
 use Rattle.records.proofs.Accepts.{good-job}
@@ -101,20 +101,20 @@ module _ (task slots : List ℕ) (x : ℕ) (j : Job) (way : gated task slots x �
   pub enter-inside : x < 2 * j .wheel .w
   enter-inside = rw (entered .1) (open-inside task slots x (entered .0) .1)
 
+  entered-as : {A : Type 0} (f : Job → A) (a none : A) → a ≡ f j → a ≡ ifNone (pointRefusal task slots x) (f (jobOf (taskRecord task))) none
+  entered-as f a none e = e ∙ ap f (entered .1) ∙ sym (none-left _ _ _ (entered .0))
+
   pub enter-supply : (s : ℕ) → s ≡ supply 2 (jobTicks slots j) (j .task .d) x → s ≡ suppliedAt task slots x
   unfolding suppliedAt ticksOf boardOf
-  enter-supply s e =
-      e ∙ ap (λ (y : Job). supply 2 (jobTicks slots y) (y .task .d) x) (entered .1) ∙ sym (none-left _ _ _ (entered .0))
+  enter-supply s e = entered-as (λ (y : Job). supply 2 (jobTicks slots y) (y .task .d) x) s 0 e
+
+  pub enter-margin : (g : ℤ) → g ≡ margin 2 (jobTicks slots j) (asked (j .task)) x → g ≡ marginAt task slots x
+  unfolding marginAt ticksOf boardOf
+  enter-margin g e = entered-as (λ (y : Job). margin 2 (jobTicks slots y) (asked (y .task)) x) g (pos 0) e
 
   pub enter-count : (n : ℕ) → n ≡ count 2 (jobTicks slots j) (asked (j .task)) x → n ≡ countedAt task slots x
   unfolding countedAt ticksOf boardOf
-  enter-count n e =
-      e ∙ ap (λ (y : Job). count 2 (jobTicks slots y) (asked (y .task)) x) (entered .1) ∙ sym (none-left _ _ _ (entered .0))
-
-  pub enter-drop : (b : Bool) → b ≡ dropped 2 (jobTicks slots j) (asked (j .task)) x → b ≡ droppedAt task slots x
-  unfolding droppedAt ticksOf boardOf
-  enter-drop b e =
-      e ∙ ap (λ (y : Job). dropped 2 (jobTicks slots y) (asked (y .task)) x) (entered .1) ∙ sym (none-left _ _ _ (entered .0))
+  enter-count n e = entered-as (λ (y : Job). count 2 (jobTicks slots y) (asked (y .task)) x) n 0 e
 
 module _ (task slots : List ℕ) (x m : ℕ) (shut : gated task slots x ≡ Shut m) where
   refused : (m ≡ pointRefusal task slots x) × (m ≡ 0 → ⊥)
@@ -130,10 +130,10 @@ module _ (task slots : List ℕ) (x m : ℕ) (shut : gated task slots x ≡ Shut
   unfolding suppliedAt
   shut-supply = nothing _ 0
 
+  pub shut-margin : pos 0 ≡ marginAt task slots x
+  unfolding marginAt
+  shut-margin = nothing _ (pos 0)
+
   pub shut-count : 0 ≡ countedAt task slots x
   unfolding countedAt
   shut-count = nothing _ 0
-
-  pub shut-drop : false ≡ droppedAt task slots x
-  unfolding droppedAt
-  shut-drop = nothing _ false

@@ -4,10 +4,12 @@ use mathlib.Core.Logic.{_⊎_, ⊎-elim}
 use mathlib.Core.List.{List}
 use Prim.Native.Nat.{ℕ, _-_, _≤_, _<_}
 use native.Mathlib.Omega.{arith}
+use lib.IntN.{ℤ, pos}
 use lib.ListN.{length}
 use borrow.Author.Tests.{lt-ltb, le-ltb, le-leb, lt-leb}
 use Rattle.rules.specs.Sums.{bit}
 use Rattle.rules.specs.Worst.{Worst, firmTest}
+use Rattle.rules.specs.Least.{Least}
 use Rattle.rules.proofs.Worst.{firm-agrees}
 use Rattle.octets.specs.Octets.{over}
 use Rattle.limits.specs.Limits.{asked}
@@ -68,7 +70,7 @@ module _ (task slots reply : List ℕ) where
     body n p = at-next _ _ _ good (at-next _ _ _ (when-false 2 _ (le-ltb _ _ long)) (p ∙ ap (λ x. bodyRefusal x slots) e))
 
     pub reply-refused :
-        (n : ℕ) (after : List ℕ) → checked r slots ≡ Refused n → after ≡ over (answerBytes (r .id) n 0 0 0) reply
+        (n : ℕ) (after : List ℕ) → checked r slots ≡ Refused n → after ≡ over (answerBytes (r .id) n 0 0 0 (pos 0)) reply
         → Judged task slots reply n after
     reply-refused n after c written =
         let bad = checked-refused r slots n c in
@@ -76,7 +78,7 @@ module _ (task slots reply : List ℕ) where
         record {
           number = body n (bad .0);
           silent = λ low. absurd (not-low n low (λ _. high));
-          refused = λ _. written ∙ ap (λ x. over (answerBytes (x .id) n 0 0 0) reply) e;
+          refused = λ _. written ∙ ap (λ x. over (answerBytes (x .id) n 0 0 0 (pos 0)) reply) e;
           answered = λ z. absurd (bad .1 z);
         }
 
@@ -85,10 +87,11 @@ module _ (task slots reply : List ℕ) where
       ours = checked-accepted r slots j a .1 ∙ ap jobOf e
 
       pub reply-answered :
-          (c o : ℕ) (after : List ℕ) → Worst (j .wheel .w) (jobTicks slots j) (asked (j .task)) c o
-          → after ≡ over (answerBytes (r .id) 0 (bit (firmTest (asked (j .task)) c)) c o) reply → Judged task slots reply 0 after
+          (c o : ℕ) (g : ℤ) (after : List ℕ)
+          → Worst (j .wheel .w) (jobTicks slots j) (asked (j .task)) c o × Least (j .wheel .w) (jobTicks slots j) (asked (j .task)) g
+          → after ≡ over (answerBytes (r .id) 0 (bit (firmTest (asked (j .task)) c)) c o g) reply → Judged task slots reply 0 after
       unfolding ticksOf boardOf
-      reply-answered c o after worst written =
+      reply-answered c o g after (worst, least) written =
           let here : Worst (taskRecord task .w) (ticksOf (taskRecord task) slots) (askedOf (taskRecord task)) c o =
           subst (λ (x : Job). Worst (x .wheel .w) (jobTicks slots x) (asked (x .task)) c o) ours worst in
           record {
@@ -99,8 +102,10 @@ module _ (task slots reply : List ℕ) where
               drops = c;
               offset = o;
               firm = firmTest (askedOf (taskRecord task)) c;
+              margin = g;
               worst = here;
               said = firm-agrees _ _ _ c o here;
-              bytes = written ∙ (λ i. over (answerBytes (e i .id) 0 (bit (firmTest (asked (ours i .task)) c)) c o) reply);
+              least = subst (λ (x : Job). Least (x .wheel .w) (jobTicks slots x) (asked (x .task)) g) ours least;
+              bytes = written ∙ (λ i. over (answerBytes (e i .id) 0 (bit (firmTest (asked (ours i .task)) c)) c o g) reply);
             };
           }

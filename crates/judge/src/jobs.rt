@@ -3,8 +3,9 @@ ghost use mathlib.Core.Path.{_≡_};
 ghost use Prim.Native.Nat.{_*_, _≤_, _<_};
 ghost use lib.ListN.{length};
 ghost use Rattle.limits.specs.Limits.{asked, mostPeriod};
-ghost use Rattle.rules.specs.Supply.{supply, dropped, count};
+ghost use Rattle.rules.specs.Supply.{supply, margin, count};
 ghost use Rattle.rules.specs.Worst.{Worst};
+ghost use Rattle.rules.specs.Least.{Least};
 ghost use Rattle.records.specs.Jobs.{Good, jobTicks};
 ghost use Rattle.runs.specs.Runs.{LaidIn};
 ghost use Rattle.room.specs.Room.{mostEdges};
@@ -20,10 +21,11 @@ pub fn lay(slots: &[u8], job: Job, runs: &mut [u16]) -> usize
     ticks::table(slots, job.first, job.count, wheel.w, runs)
 }
 
-// The worst count and offset.
+// The worst count and offset, and the least margin.
 pub fn worst(slots: &[u8], job: Job, runs: &mut [u16]) -> Peak
     requires { ⌜ Good (now slots) job × (length (now runs) ≡ mostEdges) ⌝ }
     ensures { λ r. ⌜ Worst (job .wheel .w) (jobTicks (now (slots .entry)) job) (asked (job .task)) (r .drops) (r .offset) ⌝ }
+    ensures { λ r. ⌜ Least (job .wheel .w) (jobTicks (now (slots .entry)) job) (asked (job .task)) (r .margin) ⌝ }
 {
     let wheel = job.wheel;
     let n = lay(slots, job, runs);
@@ -41,14 +43,14 @@ pub fn supply(slots: &[u8], job: Job, x: usize, runs: &mut [u16]) -> usize
     counts::supply(&runs[..n], wheel.w, x, task.d)
 }
 
-// Whether a strip at half tick x is dropped.
-pub fn dropped(slots: &[u8], job: Job, x: usize, runs: &mut [u16]) -> bool
+// The margin of a strip at half tick x, in half ticks: below zero it is dropped.
+pub fn margin(slots: &[u8], job: Job, x: usize, runs: &mut [u16]) -> i32
     requires { ⌜ Good (now slots) job × (x < 2 * job .wheel .w) × (length (now runs) ≡ mostEdges) ⌝ }
-    ensures { λ r. ⌜ r ≡ dropped 2 (jobTicks (now (slots .entry)) job) (asked (job .task)) x ⌝ }
+    ensures { λ r. ⌜ r ≡ margin 2 (jobTicks (now (slots .entry)) job) (asked (job .task)) x ⌝ }
 {
     let wheel = job.wheel;
     let n = lay(slots, job, runs);
-    counts::dropped(&runs[..n], wheel.w, x, job.task)
+    counts::margin(&runs[..n], wheel.w, x, job.task)
 }
 
 // How many of the k strips from half tick x are dropped.

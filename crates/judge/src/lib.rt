@@ -5,6 +5,7 @@ mod point;
 
 ghost use mathlib.Core.Path.{_≡_};
 ghost use Prim.Native.Nat.{_≤_};
+ghost use lib.IntN.{pos};
 ghost use lib.ListN.{length};
 ghost use Rattle.limits.specs.Limits.{asked};
 ghost use Rattle.octets.specs.Octets.{over};
@@ -13,7 +14,7 @@ ghost use Rattle.rules.specs.Worst.{firmTest};
 ghost use Rattle.records.specs.Records.{replyBytes, answerBytes};
 ghost use Rattle.records.specs.Refusals.{pointRefusal};
 ghost use Rattle.judge.specs.Judge.{Judged};
-ghost use Rattle.judge.specs.Points.{suppliedAt, droppedAt, countedAt};
+ghost use Rattle.judge.specs.Points.{suppliedAt, marginAt, countedAt};
 use crate::point::Gate;
 use limits::Task;
 use records::Checked;
@@ -23,12 +24,12 @@ use room::Peak;
 
 pub struct Supplied {
     pub number: u32,
-    pub supply: u64,
+    pub supply: u32,
 }
 
-pub struct Tested {
+pub struct Measured {
     pub number: u32,
-    pub dropped: bool,
+    pub margin: i32,
 }
 
 pub struct Counted {
@@ -51,7 +52,7 @@ fn firm(task: Task, drops: u32) -> u32
 // Writes an answer over the first bytes of the reply.
 fn write(reply: &mut [u8], a: Answer)
     requires { ⌜ replyBytes ≤ length (now reply) ⌝ }
-    ensures { λ _. ⌜ now (reply .exit) ≡ over (answerBytes (a .id) (a .number) (a .firm) (a .drops) (a .offset)) (now (reply .entry)) ⌝ }
+    ensures { λ _. ⌜ now (reply .exit) ≡ over (answerBytes (a .id) (a .number) (a .firm) (a .drops) (a .offset) (a .margin)) (now (reply .entry)) ⌝ }
 {
     let bytes = records::answer::bytes(a);
     octets::put(reply, &bytes);
@@ -60,7 +61,7 @@ fn write(reply: &mut [u8], a: Answer)
 // Writes a refusal, and gives its number.
 pub fn refuse(reply: &mut [u8], id: usize, bad: u32) -> u32
     requires { ⌜ replyBytes ≤ length (now reply) ⌝ }
-    ensures { λ r. ⌜ (r ≡ bad) × (now (reply .exit) ≡ over (answerBytes id bad 0 0 0) (now (reply .entry))) ⌝ }
+    ensures { λ r. ⌜ (r ≡ bad) × (now (reply .exit) ≡ over (answerBytes id bad 0 0 0 (pos 0)) (now (reply .entry))) ⌝ }
 {
     write(
         reply,
@@ -70,6 +71,7 @@ pub fn refuse(reply: &mut [u8], id: usize, bad: u32) -> u32
             firm: 0,
             drops: 0,
             offset: 0,
+            margin: 0,
         },
     );
     bad
@@ -78,7 +80,7 @@ pub fn refuse(reply: &mut [u8], id: usize, bad: u32) -> u32
 // Writes what was found for an accepted task.
 pub fn answer(reply: &mut [u8], id: usize, task: Task, p: Peak)
     requires { ⌜ (replyBytes ≤ length (now reply)) × (task .m ≤ task .k) ⌝ }
-    ensures { λ _. ⌜ now (reply .exit) ≡ over (answerBytes id 0 (bit (firmTest (asked task) (p .drops))) (p .drops) (p .offset)) (now (reply .entry)) ⌝ }
+    ensures { λ _. ⌜ now (reply .exit) ≡ over (answerBytes id 0 (bit (firmTest (asked task) (p .drops))) (p .drops) (p .offset) (p .margin)) (now (reply .entry)) ⌝ }
 {
     let f = firm(task, p.drops);
     write(
@@ -89,6 +91,7 @@ pub fn answer(reply: &mut [u8], id: usize, task: Task, p: Peak)
             firm: f,
             drops: p.drops,
             offset: p.offset,
+            margin: p.margin,
         },
     );
 }
@@ -131,26 +134,26 @@ pub fn supply(task: &[u8], slots: &[u8], offset: u64) -> Supplied
             let found = jobs::supply(slots, job, offset as usize, &mut runs);
             Supplied {
                 number: 0,
-                supply: found as u64,
+                supply: found as u32,
             }
         }
     }
 }
 
-// Whether a strip at a half tick is dropped, or "not dropped" beside the refusal.
-pub fn drop_test(task: &[u8], slots: &[u8], offset: u64) -> Tested
-    ensures { λ r. ⌜ (r .number ≡ pointRefusal (now (task .entry)) (now (slots .entry)) offset) × (r .dropped ≡ droppedAt (now (task .entry)) (now (slots .entry)) offset) ⌝ }
+// The margin of a strip at a half tick, in half ticks: below zero it is dropped. Beside a refusal it is 0.
+pub fn margin(task: &[u8], slots: &[u8], offset: u64) -> Measured
+    ensures { λ r. ⌜ (r .number ≡ pointRefusal (now (task .entry)) (now (slots .entry)) offset) × (r .margin ≡ marginAt (now (task .entry)) (now (slots .entry)) offset) ⌝ }
 {
     match point::enter(task, slots, offset) {
-        Gate::Shut(n) => Tested {
+        Gate::Shut(n) => Measured {
             number: n,
-            dropped: false,
+            margin: 0,
         },
         Gate::Open(job) => {
             let mut runs = [0u16; MOST_EDGES];
-            Tested {
+            Measured {
                 number: 0,
-                dropped: jobs::dropped(slots, job, offset as usize, &mut runs),
+                margin: jobs::margin(slots, job, offset as usize, &mut runs),
             }
         }
     }

@@ -39,6 +39,15 @@ module _ {v : ℕ → ℕ} {s near far m : ℕ} (line : Line v s near far m) (x 
   line-high : near ≤ far → s ≤ v x
   line-high l = omega (arith, line .at x inside, mul-le-mul-left x l)
 
+-- A line is lowest at an end.
+pub line-lowest :
+    {v : ℕ → ℕ} {s near far m : ℕ} → Line v s near far m → near ≤ 1 → (x : ℕ) → x ≤ m → min s (v m) ≤ v x
+line-lowest {v} {s} {near} {far} {m} line one x inside =
+    ⊎-elim
+    (λ (up : near ≤ far). omega (arith, line-high line x inside up))
+    (λ (down : far < near). omega (arith, line-fall line x inside down one, line-fall line m (omega arith) down one))
+    (le-or-lt near far)
+
 -- ---- where it crosses the need
 
 bit-yes : (s need : ℕ) → s < need → bit (ltb s need) ≡ 1

@@ -6,18 +6,21 @@ use mathlib.Core.Logic.{_⊎_, inl, inr, ⊎-elim}
 use mathlib.Core.Bool.{Bool, true, false, _||_}
 use mathlib.Core.List.{List}
 use Prim.Native.Nat.{ℕ, _+_, _-_, _*_, _/_, _%_, _≤_, _<_, min}
-use native.Mathlib.Nat.{add-zero, one-mul}
+use native.Mathlib.Nat.{add-zero, one-mul, le-of-eq}
 use native.Mathlib.Omega.{arith}
 use lib.Dec.{ltb}
+use lib.IntN.{ℤ, subℕ}
 use lib.ListN.{length, take}
 use lib.Seq.{length-take-le}
-use Rattle.rules.specs.Sums.{Subset, bit, number}
+use Rattle.rules.specs.Sums.{Subset, bit, number, Lowest}
 use Rattle.rules.specs.Supply as rules
 use Rattle.rules.specs.Worst.{Wheel}
+use Rattle.rules.specs.Least.{Least}
 use Rattle.rules.specs.Supply.{supply, dropped}
 use Rattle.rules.proofs.Sums.{le-or-lt, number-none}
 use Rattle.rules.proofs.Straight.{windows}
-use Rattle.rules.proofs.Step.{ltb-same, dropped-even, dropped-odd, dropped-turns}
+use Rattle.rules.proofs.Step.{ltb-same, dropped-ltb, dropped-even, dropped-odd, dropped-turns}
+use Rattle.rules.proofs.Least.{least-of-ticks}
 use Rattle.limits.specs.Limits.{asked}
 use Rattle.limits.specs.declared.Task.{Task}
 use Rattle.runs.specs.Runs.{Lay, Laid, Runs}
@@ -50,10 +53,15 @@ module _ {l : List ℕ} {w rest side : ℕ} {out : List ℕ} {j s : ℕ} (need :
   -- ---- the first sweep
 
   abbrev pub first : Walk
-  first = come 0 rest 0 j s 0
+  first = come 0 rest 0 j s s 0
 
   abbrev pub before : Way
   before = way l w l w rest need side
+
+  supplied-first : (u : Subset) → Laid l w u → s ≡ supply 1 u rest 0
+  supplied-first u laid =
+      let same : number u (0 + rest) ≡ number u rest = ap (number u) (omega arith) in
+      omega (arith, g .all u laid, windows u rest 0, number-none u)
 
   walked-first : (u : Subset) → Laid l w u → Walked before first out u
   walked-first u laid =
@@ -63,9 +71,13 @@ module _ {l : List ℕ} {w rest side : ℕ} {out : List ℕ} {j s : ℕ} (need :
         turned = λ x. ap u (omega arith);
         near = cursor-first l w;
         far = g .far;
-        supplied =
-            let same : number u (0 + rest) ≡ number u rest = ap (number u) (omega arith) in
-            omega (arith, g .all u laid, windows u rest 0, number-none u);
+        supplied = supplied-first u laid;
+        lowest = record {
+          bound = λ x l. let e : x ≡ 0 = omega arith in rw e (le-of-eq (supplied-first u laid));
+          place = 0;
+          inside = omega arith;
+          hit = sym (supplied-first u laid);
+        };
         laid = lay-none _;
       }
 
@@ -95,7 +107,7 @@ module _ {l : List ℕ} {w rest side : ℕ} {out : List ℕ} {j s : ℕ} (need :
 
   module _ {k : Walk} {out′ : List ℕ} (t : Swept before first out k out′) where
     abbrev pub second : Walk
-    second = come (k .a) 0 (k .i) 0 (k .s) (k .n)
+    second = come (k .a) 0 (k .i) 0 (k .s) (k .low) (k .n)
 
     abbrev pub behind : Way
     behind = way l w (take j l) rest rest need side
@@ -115,6 +127,7 @@ module _ {l : List ℕ} {w rest side : ℕ} {out : List ℕ} {j s : ℕ} (need :
           near = h .near;
           far = cursor-first (take j l) rest;
           supplied = h .supplied;
+          lowest = h .lowest;
           laid = h .laid;
         }
 
@@ -139,7 +152,7 @@ module _ {l : List ℕ} {w rest side : ℕ} {out : List ℕ} {j s : ℕ} (need :
 
     -- ---- both together
 
-    pub round : {k′ : Walk} {out″ : List ℕ} → Swept behind second out′ k′ out″ → Laying l w rest need side out (k′ .n) out″
+    pub round : {k′ : Walk} {out″ : List ℕ} → Swept behind second out′ k′ out″ → Laying l w rest need side out (k′ .n) (k′ .low) out″
     round {k′} t′ =
         let end : k′ .a ≡ w = omega (arith, t .level, t .end, t′ .level, t′ .end) in
         let few : k′ .n ≤ lateRoom (length l) =
@@ -149,6 +162,7 @@ module _ {l : List ℕ} {w rest side : ℕ} {out : List ℕ} {j s : ℕ} (need :
           long = t′ .long ∙ t .long;
           few = omega arith;
           laid = λ u laid. rw end at (t′ .each u (walked-second u laid) .laid);
+          lowest = λ u laid. rw end at (t′ .each u (walked-second u laid) .lowest);
         }
 
 -- ---- the need that is left
@@ -159,6 +173,10 @@ unfolding needIn
 need-same turned rest e x h =
     rw one-mul (ltb-same x (min (e - turned) (rest + 1)) (turned + x) e (λ p. omega arith) (λ p. omega arith))
 
+pub need-le : (turned rest e : ℕ) → needIn turned rest e ≤ e
+unfolding needIn
+need-le turned rest e = omega arith
+
 -- ---- drops
 
 or-same : (b : Bool) → (b || b) ≡ b
@@ -166,11 +184,25 @@ or-same true = refl
 or-same false = refl
 
 module _ (w : ℕ) (u : Subset) (wheel : Wheel w u) (t : rules.Task) (turned : ℕ) (e : turned ≡ t .D / w * number u w) where
+  whole : (a : ℕ) → turned + supply 1 u (t .D % w) a ≡ supply 1 u (t .D) a
+  whole a = ap (λ n. n + supply 1 u (t .D % w) a) e ∙ window-split w u wheel (t .D) a
+
+  -- Whole turns give the same everywhere.
+  least-margin : (low : ℕ) → Lowest (supply 1 u (t .D % w)) w low → Least w u t (subℕ (turned + low) (t .e))
+  least-margin low h =
+      least-of-ticks w u wheel t (turned + low)
+      (record {
+        bound = λ x l. omega (arith, whole x, h .bound x l);
+        place = h .place;
+        inside = h .inside;
+        hit = omega (arith, whole (h .place), h .hit);
+      })
+
   tick-same : (a : ℕ) → ltb (supply 1 u (t .D % w) a) (needIn turned (t .D % w) (t .e)) ≡ dropped 1 u t a
-  unfolding dropped
   tick-same a =
       need-same turned (t .D % w) (t .e) (supply 1 u (t .D % w) a) (supply-le u (t .D % w) a)
-      ∙ ap (λ n. ltb n (1 * t .e)) (ap (λ n. n + supply 1 u (t .D % w) a) e ∙ window-split w u wheel (t .D) a)
+      ∙ ap (λ n. ltb n (1 * t .e)) (whole a)
+      ∙ sym (dropped-ltb 1 u t a)
 
   side-same :
       (side a : ℕ) → (side ≡ 0) ⊎ (side ≡ 1)
@@ -193,11 +225,21 @@ module _ (w : ℕ) (u : Subset) (wheel : Wheel w u) (t : rules.Task) (turned : �
 lay-like : {l : List ℕ} {to : ℕ} {u z : Subset} → Lay l to u → ((x : ℕ) → u x ≡ z x) → Lay l to z
 lay-like lay same = record { order = lay .order; alike = λ i x low high. ap bit (sym (same x)) ∙ lay .alike i x low high }
 
+-- A window of less than a turn holds no more than its ticks.
+pub low-small :
+    (l : List ℕ) (w rest need side : ℕ) (out : List ℕ) (r low : ℕ) (out′ : List ℕ) → Runs l w
+    → Laying l w rest need side out r low out′ → low ≤ rest
+unfolding Runs
+low-small l w rest need side out r low out′ (u, laid) h =
+    let lowest = h .lowest u laid in
+    omega (arith, lowest .hit, supply-le u rest (lowest .place))
+
 pub late-round :
-    (l : List ℕ) (w : ℕ) (t : Task) (side turned need : ℕ) (out : List ℕ) (r : ℕ) (out′ : List ℕ) → side ≤ 1
+    (l : List ℕ) (w : ℕ) (t : Task) (side turned need : ℕ) (out : List ℕ) (r low : ℕ) (margin : ℤ) (out′ : List ℕ) → side ≤ 1
     → min (lateRoom (length l)) w ≤ length out → ((u : Subset) → Laid l w u → turned ≡ t .d / w * number u w)
-    → need ≡ needIn turned (t .d % w) (t .e) → Laying l w (t .d % w) need side out r out′ → LateIn l w t side out r out′
-late-round l w t side turned need out r out′ half room turns e h =
+    → need ≡ needIn turned (t .d % w) (t .e) → Laying l w (t .d % w) need side out r low out′
+    → margin ≡ subℕ (turned + low) (t .e) → LateIn l w t side out r margin out′
+late-round l w t side turned need out r low margin out′ half room turns e h is =
     record {
       long = h .long;
       room = omega (arith, h .few, h .long);
@@ -209,6 +251,7 @@ late-round l w t side turned need out r out′ half room turns e h =
             lay = lay-like (h .laid u laid) (λ a.
                 rw e (side-same w u (laid .wheel) (asked t) turned (turns u laid) side a sides));
           };
+      least = λ u laid. rw is (least-margin w u (laid .wheel) (asked t) turned (turns u laid) low (h .lowest u laid));
     }
   where
     sides : (side ≡ 0) ⊎ (side ≡ 1)

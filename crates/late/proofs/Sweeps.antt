@@ -15,10 +15,12 @@ use Rattle.rules.specs.Sums.{Subset, bit}
 use Rattle.rules.specs.Supply.{supply}
 use Rattle.rules.proofs.Sums.{le-or-lt}
 use Rattle.rules.proofs.Straight.{supply-next}
+use Rattle.rules.proofs.Least.{lowest-on}
 use Rattle.runs.specs.Runs.{edge}
 use Rattle.counts.proofs.Windows.{supply-le}
 use Rattle.late.specs.declared.Walk.{Walk}
 use Rattle.late.specs.Late.{short, Line, Slope, off, Stretch, Cursor, Way, Walked, Walks, Outset, Swept}
+use Rattle.late.proofs.Pieces.{line-lowest}
 use Rattle.late.proofs.Cursors.{edge-most, cursor-inside, Passed, cursor-moves}
 
 -- ---- supply between edges
@@ -38,8 +40,8 @@ module _ (u : Subset) (rest a near far m : ℕ) where
       → ((x : ℕ) → x < m → bit (u (a + x + rest)) ≡ far) → Line (λ x. supply 1 u rest (a + x)) s near far m
   supply-line s e here there = record { at = λ x h. supply-at here there x h ∙ ap (λ n. n + x * far) (sym e) }
 
-abbrev pub come : ℕ → ℕ → ℕ → ℕ → ℕ → ℕ → Walk
-come a b i j s n = record { a = a; b = b; i = i; j = j; s = s; n = n }
+abbrev pub come : ℕ → ℕ → ℕ → ℕ → ℕ → ℕ → ℕ → Walk
+come a b i j s low n = record { a = a; b = b; i = i; j = j; s = s; low = low; n = n }
 
 -- ---- one stretch
 
@@ -52,6 +54,7 @@ pub record Step (y : Way) (here there m : ℕ) (k : Walk) (out : List ℕ) (k′
   pub over : k′ .b ≡ k .b + m
   pub drawn : Stretch out (k .n) (k .a) m (k .s) (y .need) (y .side) (k .i % 2) (k .j % 2) (k′ .n) out′
   pub slides : k′ .s + m * (k .i % 2) ≡ k .s + m * (k .j % 2)
+  pub lower : k′ .low ≡ min (k .low) (k′ .s)
   pub ours : Passed (k .i) (k′ .a) here (k′ .i)
   pub theirs : Passed (k .j) (k′ .b) there (k′ .j)
 
@@ -113,6 +116,8 @@ module _ (y : Way) (k : Walk) (out : List ℕ) where
         let there′ = step-theirs (h .far) in
         let line : Line (λ x. supply 1 u (y .rest) (k .a + x)) (k .s) (k .i % 2) (k .j % 2) m =
         walked-line h m (omega (arith, t .near)) (omega (arith, t .far)) in
+        let end : k′ .s ≡ supply 1 u (y .rest) (k .a + m) =
+        sums-same (k′ .s) _ (m * (k .i % 2)) _ (t .slides) (line .at m (omega arith)) in
         record {
           ours = h .ours;
           theirs = h .theirs;
@@ -122,7 +127,11 @@ module _ (y : Way) (k : Walk) (out : List ℕ) where
               ap u e ∙ h .turned (m + x) ∙ ap u g;
           near = cursor-moves (h .ours) (omega (arith, t .on, h .near .low)) (omega (arith, t .on)) (t .near) (t .ours);
           far = cursor-moves (h .theirs) (omega (arith, t .over, h .far .low)) (omega (arith, t .over)) (t .far) (t .theirs);
-          supplied = sums-same (k′ .s) _ (m * (k .i % 2)) _ (t .slides) (line .at m (omega arith)) ∙ ap (supply 1 u (y .rest)) (sym (t .on));
+          supplied = end ∙ ap (supply 1 u (y .rest)) (sym (t .on));
+          lowest =
+              rw (t .lower, t .on)
+              (lowest-on (supply 1 u (y .rest)) (k .a) m (k .low) (k′ .s) (h .lowest) (sym end) (λ x less.
+              omega (arith, h .supplied, end, line-lowest line (omega arith) x less)));
           laid =
               let z : Subset = short (supply 1 u (y .rest)) (y .need) (y .side) in
               let e : k .a + m ≡ k′ .a = sym (t .on) in

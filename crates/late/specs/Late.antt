@@ -1,4 +1,5 @@
--- Where strips are dropped, from runs of usable ticks: supply is a straight line between edges, and a line crosses the need once. Definitions only.
+-- Where strips are dropped and how near it came, from runs of usable ticks: supply is a straight line between edges, so it crosses the need once
+-- and is lowest at an end. Definitions only.
 --
 --     needIn turned rest e                what whole turns leave of the need e, between 0 and rest + 1
 --     short v need side a                 v is below the need at a, or `side` ticks after it
@@ -12,25 +13,27 @@
 --     Stretch ..                          such a part, for every set that is short along a line
 --     Cursor l to i at                    `at` lies in run i, or at its end
 --     Way                                 what a walk goes by: the runs on w ticks for the near cursor; for the far one, `rest` ticks on, those up to `stop`
---     Walked y k out u                    a walk that has come to k: two cursors, the supply between them, the edges so far, all as the set u has them
+--     Walked y k out u                    a walk that has come to k: two cursors, the supply between them, the lowest and the edges so far, all as the set u has them
 --     Walks y k out                       the same for some set
 --     Bounds w rest side                  a wheel within its bound, a window of less than a turn, and a whole tick (side 0) or half a tick after it (1)
 --     Outset y k out                      a walk from k on meets its bounds and has room: for an edge a run, or an edge a tick
 --     Swept y k out k′ out′               a walk from k to k′, on which the far cursor has come to its end
 --     lateRoom n                          the edges that suffice for what comes of n edges
---     Laying ..                           the ticks where the window of `rest` ticks holds less than the need, laid out in a buffer
---     LateIn ..                           the ticks at which strips are dropped, laid out in a buffer
+--     Laying ..                           the ticks where the window of `rest` ticks holds less than the need, laid out in a buffer, and the least that it holds
+--     LateIn ..                           the ticks at which strips are dropped, laid out in a buffer, and the least margin
 use mathlib.Core.Path.{_≡_}
 use mathlib.Core.Logic.{_⊎_}
 use mathlib.Core.Bool.{_||_}
 use mathlib.Core.List.{List}
 use Prim.Native.Nat.{ℕ, suc, _+_, _-_, _*_, _%_, _≤_, _<_, min}
 use lib.Dec.{ltb}
+use lib.IntN.{ℤ}
 use lib.ListN.{length, take}
 use Rattle.limits.specs.Limits.{mostTicks, asked}
 use Rattle.limits.specs.declared.Task.{Task}
-use Rattle.rules.specs.Sums.{Subset, bit}
+use Rattle.rules.specs.Sums.{Subset, bit, Lowest}
 use Rattle.rules.specs.Supply.{supply, dropped}
+use Rattle.rules.specs.Least.{Least}
 use Rattle.runs.specs.Runs.{edge, Lay, Laid}
 use Rattle.late.specs.declared.Walk.{Walk}
 
@@ -115,6 +118,7 @@ pub record Walked (y : Way) (k : Walk) (out : List ℕ) (u : Subset) : Type 0 wh
   pub near : Cursor (y .runs) (y .w) (k .i) (k .a)
   pub far : Cursor (y .part) (y .stop) (k .j) (k .b)
   pub supplied : k .s ≡ supply 1 u (y .rest) (k .a)
+  pub lowest : Lowest (supply 1 u (y .rest)) (k .a) (k .low)
   pub laid : Lay (take (k .n) out) (k .a) (short (supply 1 u (y .rest)) (y .need) (y .side))
 
 unfoldable pub Walks : Way → Walk → List ℕ → Type 0
@@ -150,13 +154,15 @@ pub record Swept (y : Way) (k : Walk) (out : List ℕ) (k′ : Walk) (out′ : L
 abbrev pub lateRoom : ℕ → ℕ
 lateRoom n = 2 * n + 4
 
-pub record Laying (l : List ℕ) (w rest need side : ℕ) (out : List ℕ) (r : ℕ) (out′ : List ℕ) : Type 0 where
+pub record Laying (l : List ℕ) (w rest need side : ℕ) (out : List ℕ) (r low : ℕ) (out′ : List ℕ) : Type 0 where
   pub long : length out′ ≡ length out
   pub few : r ≤ min (lateRoom (length l)) w
   pub laid : (u : Subset) → Laid l w u → Lay (take r out′) w (short (supply 1 u rest) need side)
+  pub lowest : (u : Subset) → Laid l w u → Lowest (supply 1 u rest) w low
 
-pub record LateIn (l : List ℕ) (w : ℕ) (t : Task) (side : ℕ) (out : List ℕ) (r : ℕ) (out′ : List ℕ) : Type 0 where
+pub record LateIn (l : List ℕ) (w : ℕ) (t : Task) (side : ℕ) (out : List ℕ) (r : ℕ) (margin : ℤ) (out′ : List ℕ) : Type 0 where
   pub long : length out′ ≡ length out
   pub room : r ≤ length out′
   pub few : r ≤ min (lateRoom (length l)) w
   pub laid : (u : Subset) → Laid l w u → Laid (take r out′) w (λ a. dropped 2 u (asked t) (2 * a + side))
+  pub least : (u : Subset) → Laid l w u → Least w u (asked t) margin

@@ -1,4 +1,4 @@
-// Where strips are dropped, as runs: a walk along the straight pieces of supply.
+// Where strips are dropped, as runs, and the least margin: a walk along the straight pieces of supply.
 ghost use mathlib.Core.Path.{_≡_};
 ghost use mathlib.Core.Bool.{true};
 ghost use Prim.Native.Nat.{_+_, _*_, _≤_, _<_, min};
@@ -129,17 +129,20 @@ fn stretch(
     split(out, n, at, m, c.gap, c.first)
 }
 
-// How far a walk has come: the near cursor at tick a in run i, the far one at b in run j, the supply s between them, and n edges written.
+// How far a walk has come: the near cursor at tick a in run i, the far one at b in run j, the supply s between them, the lowest so far, and n
+// edges written.
 struct Walk {
     a: usize,
     b: usize,
     i: usize,
     j: usize,
     s: usize,
+    low: usize,
     n: usize,
 }
 
-// Walks on until the far cursor comes to its end. Each stretch ends where a cursor comes to the end of its run.
+// Walks on until the far cursor comes to its end. Each stretch ends where a cursor comes to the end of its run, and supply is lowest at an end of
+// one.
 fn sweep(
     runs: &[u16],
     w: usize,
@@ -159,6 +162,7 @@ fn sweep(
     let mut i = from.i;
     let mut j = from.j;
     let mut s = from.s;
+    let mut low = from.low;
     let mut n = from.n;
     while b < stop {
         let near = runs::end(runs, w, i);
@@ -166,6 +170,7 @@ fn sweep(
         let m = least(near - a, next - b);
         n = stretch(out, n, a, m, s, need, side, i % 2, j % 2);
         s = slid(s, m, i % 2, j % 2);
+        low = least(low, s);
         a += m;
         b += m;
         if a == near {
@@ -175,13 +180,21 @@ fn sweep(
             j += 1;
         }
     }
-    Walk { a, b, i, j, s, n }
+    Walk {
+        a,
+        b,
+        i,
+        j,
+        s,
+        low,
+        n,
+    }
 }
 
 // All around the wheel: from tick 0 on until the far cursor comes to the wheel's end, then with the far cursor from tick 0 on.
-fn around(runs: &[u16], w: usize, rest: usize, need: usize, side: usize, out: &mut [u16]) -> usize
+fn around(runs: &[u16], w: usize, rest: usize, need: usize, side: usize, out: &mut [u16]) -> Walk
     requires { ⌜ Runs (now runs) w × (rest < w) × (side ≤ 1) × (min (lateRoom (length (now runs))) w ≤ length (now out)) ⌝ }
-    ensures { λ r. ⌜ Laying (now (runs .entry)) w rest need side (now (out .entry)) r (now (out .exit)) ⌝ }
+    ensures { λ r. ⌜ Laying (now (runs .entry)) w rest need side (now (out .entry)) (r .n) (r .low) (now (out .exit)) ⌝ }
 {
     let j = find(runs, w, rest);
     let s = counts::below(runs, w, rest);
@@ -191,6 +204,7 @@ fn around(runs: &[u16], w: usize, rest: usize, need: usize, side: usize, out: &m
         i: 0,
         j,
         s,
+        low: s,
         n: 0,
     };
     let half = sweep(runs, w, runs, w, rest, need, side, start, out);
@@ -200,18 +214,30 @@ fn around(runs: &[u16], w: usize, rest: usize, need: usize, side: usize, out: &m
         i: half.i,
         j: 0,
         s: half.s,
+        low: half.low,
         n: half.n,
     };
-    let end = sweep(runs, w, &runs[..j], rest, rest, need, side, over, out);
-    end.n
+    sweep(runs, w, &runs[..j], rest, rest, need, side, over, out)
 }
 
-// The ticks of the wheel at which a strip is dropped that arrives there (side 0), or half a tick after it (side 1). The result is how many edges they have.
-pub fn late(runs: &[u16], w: usize, task: Task, side: usize, out: &mut [u16]) -> usize
+// What the walk around a wheel has found: how many edges the late ticks have, and the least margin in whole ticks.
+pub struct Pass {
+    pub edges: usize,
+    pub margin: i32,
+}
+
+// The ticks of the wheel at which a strip is dropped that arrives there (side 0), or half a tick after it (side 1), and the least margin, which is
+// that of a tick on either side.
+pub fn late(runs: &[u16], w: usize, task: Task, side: usize, out: &mut [u16]) -> Pass
     requires { ⌜ Runs (now runs) w × Within task × (side ≤ 1) × (min (lateRoom (length (now runs))) w ≤ length (now out)) ⌝ }
-    ensures { λ r. ⌜ LateIn (now (runs .entry)) w task side (now (out .entry)) r (now (out .exit)) ⌝ }
+    ensures { λ r. ⌜ LateIn (now (runs .entry)) w task side (now (out .entry)) (r .edges) (r .margin) (now (out .exit)) ⌝ }
 {
     let rest = task.d % w;
-    let left = need(counts::turned(runs, w, task.d), rest, task.e);
-    around(runs, w, rest, left, side, out)
+    let turned = counts::turned(runs, w, task.d);
+    let left = need(turned, rest, task.e);
+    let end = around(runs, w, rest, left, side, out);
+    Pass {
+        edges: end.n,
+        margin: counts::over(turned + end.low, task.e),
+    }
 }

@@ -1,22 +1,29 @@
--- Numbers small enough for the bytes they are written in: counts, offsets and refusals. Assumes nothing.
-use mathlib.Core.Path.{_≡_, refl, sym}
+-- Numbers small enough for the bytes they are written in: counts, offsets, supplies, margins and refusals. Assumes nothing.
+use mathlib.Core.Path.{_≡_, refl, sym, ap, subst, _∙_}
 use mathlib.Core.Logic.{⊎-elim}
 use mathlib.Core.List.{List}
 use Prim.Native.Nat.{ℕ, _+_, _*_, _/_, _%_, _≤_, _<_}
-use native.Mathlib.Nat.{div-div-eq-div-mul}
+use native.Mathlib.Nat.{div-div-eq-div-mul, mul-le-mul}
 use native.Mathlib.Omega.{arith}
+use lib.IntN.{ℤ, pos}
+use mir.Syntax.{w32}
+use mir.Val.{SFits}
 use Rattle.rules.specs.Sums.{Subset}
-use Rattle.rules.specs.Supply.{Task, drops, count}
+use Rattle.rules.specs.Supply.{Task, supply, margin, drops, count}
 use Rattle.rules.specs.Worst.{Worst}
+use Rattle.rules.specs.Least.{Least}
 use Rattle.rules.proofs.Sums.{number-le}
-use Rattle.limits.specs.Limits.{mostTicks, mostStrips}
+use Rattle.rules.proofs.Signed.{mag-sub}
+use Rattle.octets.specs.Octets.{twos, signed}
+use Rattle.octets.proofs.Signs.{twos-small, signed-twos}
+use Rattle.limits.specs.Limits.{mostTicks, mostStrips, mostPeriod, mostNeed}
 use Rattle.limits.proofs.Refusals.{either}
 use Rattle.records.specs.Records.{taskRecord, ticksOf, askedOf}
 use Rattle.records.specs.Refusals.{bodyRefusal, pointRefusal}
 use Rattle.records.specs.declared.TaskRecord.{TaskRecord}
 use Rattle.records.proofs.Numbers.{body-all}
 use Rattle.records.proofs.Accepts.{good-job}
-use Rattle.judge.specs.Points.{countedAt}
+use Rattle.judge.specs.Points.{suppliedAt, marginAt, countedAt}
 use Rattle.judge.proofs.Gates.{open-inside}
 use Rattle.fiddlequill.specs.Packed.{packed}
 
@@ -75,6 +82,62 @@ pub unpacked-count :
     (task slots : List ℕ) (x r : ℕ) → r ≡ packed (pointRefusal task slots x) (countedAt task slots x)
     → (r / 4294967296 ≡ pointRefusal task slots x) × (r % 4294967296 ≡ countedAt task slots x)
 unpacked-count task slots x r = unpacked _ _ r (omega (arith, counted-small task slots x))
+
+-- ---- supplies and margins
+
+supply-most : (q : ℕ) (u : Subset) (D p : ℕ) → supply q u D p ≤ q * D
+unfolding supply
+supply-most q u D p = number-le _ (q * D)
+
+pub supplied-small : (task slots : List ℕ) (x : ℕ) → suppliedAt task slots x ≤ 2 * mostPeriod
+unfolding suppliedAt
+supplied-small task slots x =
+    ⊎-elim
+    (λ none.
+    let good = open-inside task slots x (none .0) .0 in
+    omega (arith, none .1, supply-most 2 (ticksOf (taskRecord task) slots) (taskRecord task .d) x, good .within .deadline))
+    (λ bad. omega (arith, bad .1))
+    (either (pointRefusal task slots x) (supply 2 (ticksOf (taskRecord task) slots) (taskRecord task .d) x) 0 refl)
+
+pub unpacked-supply :
+    (task slots : List ℕ) (x r : ℕ) → r ≡ packed (pointRefusal task slots x) (suppliedAt task slots x)
+    → (r / 4294967296 ≡ pointRefusal task slots x) × (r % 4294967296 ≡ suppliedAt task slots x)
+unpacked-supply task slots x r = unpacked _ _ r (omega (arith, supplied-small task slots x))
+
+-- A margin in units of half a tick or more fits 32 bits.
+margin-fits :
+    (q : ℕ) (u : Subset) (t : Task) (p : ℕ) → q ≤ 2 → t .D ≤ mostPeriod → t .e ≤ mostNeed → SFits w32 (margin q u t p)
+unfolding margin
+margin-fits q u t p few deadline need =
+    let supplied : q * t .D ≤ 2 * mostPeriod = mul-le-mul few deadline in
+    let needed : q * t .e ≤ 2 * mostNeed = mul-le-mul few need in
+    record { sfits = mag-sub (supply q u (t .D) p) (q * t .e) 2147483648 (omega (arith, supply-most q u (t .D) p)) (omega arith) }
+
+pub least-fits :
+    (r : TaskRecord) (l : List ℕ) (g : ℤ) → bodyRefusal r l ≡ 0 → Least (r .w) (ticksOf r l) (askedOf r) g → SFits w32 g
+least-fits r l g e least =
+    let good = good-job r l e in
+    subst (SFits w32) (least .hit)
+    (margin-fits 1 (ticksOf r l) (askedOf r) (least .place) (omega arith) (good .within .deadline) (good .within .need))
+
+measured-fits : (task slots : List ℕ) (x : ℕ) → SFits w32 (marginAt task slots x)
+unfolding marginAt
+measured-fits task slots x =
+    ⊎-elim
+    (λ none.
+    let good = open-inside task slots x (none .0) .0 in
+    subst (SFits w32) (none .1)
+    (margin-fits 2 (ticksOf (taskRecord task) slots) (askedOf (taskRecord task)) x (omega arith) (good .within .deadline) (good .within .need)))
+    (λ bad. subst (SFits w32) (bad .1) (record { sfits = omega arith }))
+    (either (pointRefusal task slots x) (margin 2 (ticksOf (taskRecord task) slots) (askedOf (taskRecord task)) x) (pos 0) refl)
+
+pub unpacked-margin :
+    (task slots : List ℕ) (x r : ℕ) → r ≡ packed (pointRefusal task slots x) (twos (marginAt task slots x))
+    → (r / 4294967296 ≡ pointRefusal task slots x) × (signed (r % 4294967296) ≡ marginAt task slots x)
+unpacked-margin task slots x r e =
+    let fits = measured-fits task slots x in
+    let parts = unpacked _ _ r (twos-small (marginAt task slots x) fits) e in
+    (parts .0, ap signed (parts .1) ∙ signed-twos (marginAt task slots x) fits)
 
 -- ---- refusals
 

@@ -8,22 +8,26 @@ use native.Mathlib.Decide.{ℕ-discrete}
 use native.Mathlib.Nat.{mul-one, mul-zero}
 use native.Mathlib.Omega.{arith}
 use borrow.Author.Tests.{lt-ltb, le-ltb, lt-leb}
+use lib.IntN.{pos, _*ℤ_}
 use lib.ListN.{length, getD}
 use lib.Seq.{ext-getD}
 use Rattle.rules.specs.Sums.{Subset, bit, number}
-use Rattle.rules.specs.Supply.{Task, supply, dropped, drops, count}
+use Rattle.rules.specs.Supply.{Task, supply, margin, drops, count}
 use Rattle.rules.specs.Usable.{usable, grid}
 use Rattle.rules.specs.Worst.{Firm}
 use Rattle.rules.specs.Grant.{first, gridTicks, NoChoice}
 use Rattle.rules.proofs.Sums.{number-const, any-none}
+use Rattle.rules.proofs.Step.{dropped-ltb}
+use Rattle.rules.proofs.Least.{margin-tick}
 use Rattle.limits.proofs.Refusals.{both-none, at-next, when-false, none-left}
 use Rattle.limits.proofs.Made.{task-within}
 use Rattle.limits.specs.Limits.{Within, taskOf}
+use Rattle.records.specs.Records.{taskRecord, ticksOf, askedOf}
 use Rattle.records.specs.Refusals.{pointRefusal, judgeRefusal, beyond}
 use Rattle.ticks.specs.Ticks.{freeOf}
-use Rattle.judge.specs.Points.{countedAt}
+use Rattle.judge.specs.Points.{marginAt, countedAt}
 use Rattle.grants.specs.Grants.{grantRefusal, askedFor, Marked, GrantCall}
-use Rattle.promises.specs.Laws.{CountCertain, WorstCounted, GrantNone, GrantCertain}
+use Rattle.promises.specs.Laws.{CountCertain, WorstCounted, LeastMeasured, GrantNone, GrantCertain}
 use Rattle.promises.proofs.Bounds.{count-le, counted-most}
 
 -- ---- counting a task that was judged
@@ -41,6 +45,19 @@ worst-counted task slots reply c o accepted worst = (
   none-left _ _ _ (count-certain task slots reply o accepted (worst .inside)) ∙ worst .hit,
   λ x. counted-most task slots x c (λ _. worst .bound 2 x (omega arith)),
 )
+
+-- ---- the margin of a task that was judged
+
+pub least-measured : LeastMeasured
+unfolding marginAt
+least-measured task slots reply g accepted least =
+    let t = askedOf (taskRecord task) in
+    let u = ticksOf (taskRecord task) slots in
+    let at : (x : ℕ) → x < 2 * taskRecord task .w → marginAt task slots x ≡ margin 2 u t x =
+    λ x inside. none-left _ _ _ (count-certain task slots reply x accepted inside) in (
+      λ x inside. rw (at x inside) (least .bound 2 x (omega arith)),
+      (least .place, least .inside, at (2 * least .place) (omega (arith, least .inside)) ∙ margin-tick u t (least .place) ∙ ap (λ z. pos 2 *ℤ z) (least .hit)),
+    )
 
 -- ---- no slots drop every strip
 
@@ -64,11 +81,11 @@ unfolding supply bit
 supply-none q u D p none = number-const _ false (q * D) (λ i _. none _) ∙ mul-zero (q * D)
 
 all-dropped : (u : Subset) (t : Task) → ((x : ℕ) → u x ≡ false) → 0 < t .e → count 1 u t 0 ≡ t .k
-unfolding count drops dropped bit
+unfolding count drops bit
 all-dropped u t none asks =
     number-const _ true (t .k) (λ i _.
     let nothing = supply-none 1 u (t .D) (0 + i * (1 * t .h)) none in
-    lt-ltb (supply 1 u (t .D) (0 + i * (1 * t .h))) (1 * t .e) (omega arith))
+    dropped-ltb 1 u t (0 + i * (1 * t .h)) ∙ lt-ltb (supply 1 u (t .D) (0 + i * (1 * t .h))) (1 * t .e) (omega arith))
     ∙ mul-one (t .k)
 
 -- ---- granting

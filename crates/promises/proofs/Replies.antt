@@ -9,11 +9,14 @@ use native.Mathlib.Nat.{add-zero}
 use native.Mathlib.Omega.{arith}
 use borrow.Author.Tests.{le-ltb}
 use lib.ListN.{length, getD}
-use mir.Syntax.{w8}
-use mir.Val.{Fits}
+use lib.IntN.{ℤ, pos}
+use mir.Syntax.{w8, w32}
+use mir.Val.{Fits, SFits}
 use Rattle.rules.specs.Sums.{bit}
 use Rattle.rules.specs.Worst.{Worst, Firm}
-use Rattle.octets.specs.Octets.{le2, le4, over}
+use Rattle.rules.specs.Least.{Least}
+use Rattle.octets.specs.Octets.{le2, le4, twos, signed, over}
+use Rattle.octets.proofs.Signs.{twos-small, signed-twos}
 use Rattle.limits.proofs.Refusals.{when-false, otherwise-none, otherwise-some}
 use Rattle.records.specs.Records.{taskBytes, slotBytes, replyBytes, taskRecord, ticksOf, askedOf, answerBytes}
 use Rattle.records.specs.Refusals.{sizes, room, bodyRefusal, judgeRefusal}
@@ -27,23 +30,31 @@ use Rattle.site.specs.Site.{Sited}
 use Rattle.site.proofs.Sites.{roomy-none}
 use Rattle.promises.specs.Answers.{Told, SiteTold}
 use Rattle.promises.specs.declared.read.Answer.{Answer}
-use Rattle.promises.proofs.Bounds.{back2, back4, worst-small, body-low}
+use Rattle.promises.proofs.Bounds.{back2, back4, worst-small, least-fits, body-low}
 
 -- ---- the fields of an answer record at the start of a buffer
 
-record Fields (i n f c o : ℕ) (after : List ℕ) : Type 0 where
+record Fields (i n f c o g : ℕ) (after : List ℕ) : Type 0 where
   id : le4 after 0 ≡ i
   refusal : le2 after 4 ≡ n
   firm : le2 after 6 ≡ f
   drops : le4 after 8 ≡ c
   offset : le4 after 12 ≡ o
+  margin : le4 after 16 ≡ g
 
 fields :
-    (i n f c o : ℕ) (b : List ℕ) → i < 4294967296 → n < 65536 → f < 65536 → c < 4294967296 → o < 4294967296
-    → Fields i n f c o (over (answerBytes i n f c o) b)
+    (i n f c o : ℕ) (g : ℤ) (b : List ℕ) → i < 4294967296 → n < 65536 → f < 65536 → c < 4294967296 → o < 4294967296 → SFits w32 g
+    → Fields i n f c o (twos g) (over (answerBytes i n f c o g) b)
 unfolding over
-fields i n f c o b li ln lf lc lo =
-    record { id = back4 i li; refusal = back2 n ln; firm = back2 f lf; drops = back4 c lc; offset = back4 o lo }
+fields i n f c o g b li ln lf lc lo lg =
+    record {
+      id = back4 i li;
+      refusal = back2 n ln;
+      firm = back2 f lf;
+      drops = back4 c lc;
+      offset = back4 o lo;
+      margin = back4 (twos g) (twos-small g lg);
+    }
 
 one-bit : (b : Bool) {A : Type 0} → (b ≡ true) ↔ A → (bit b ≤ 1) × ((bit b ≡ 1) ↔ A)
 unfolding bit
@@ -58,10 +69,13 @@ record Written (task slots : List ℕ) (n : ℕ) (after : List ℕ) : Type 0 whe
   firm : ℕ
   drops : ℕ
   offset : ℕ
-  fields : Fields (taskRecord task .id) n firm drops offset after
+  margin : ℤ
+  fields : Fields (taskRecord task .id) n firm drops offset (twos margin) after
+  fits : SFits w32 margin
   worst : n ≡ 0 → Worst (taskRecord task .w) (ticksOf (taskRecord task) slots) (askedOf (taskRecord task)) drops offset
   said : n ≡ 0 → (firm ≤ 1) × ((firm ≡ 1) ↔ Firm (ticksOf (taskRecord task) slots) (askedOf (taskRecord task)))
-  none : 1 < n → (firm ≡ 0) × (drops ≡ 0) × (offset ≡ 0)
+  least : n ≡ 0 → Least (taskRecord task .w) (ticksOf (taskRecord task) slots) (askedOf (taskRecord task)) margin
+  none : 1 < n → (firm ≡ 0) × (drops ≡ 0) × (offset ≡ 0) × (margin ≡ pos 0)
 
 -- With room for an answer, what the sizes don't refuse is refused by the record alone.
 from-body :
@@ -81,28 +95,38 @@ module _ (task slots reply after : List ℕ) (known : le4 task 0 < 4294967296) w
   wrote-answer : bodyRefusal (taskRecord task) slots ≡ 0 → Answered task slots reply after → Written task slots 0 after
   wrote-answer good a =
       let sizes = worst-small (taskRecord task) slots (a .drops) (a .offset) good (a .worst) in
+      let fits = least-fits (taskRecord task) slots (a .margin) good (a .least) in
       let firm = one-bit (a .firm) (a .said) in
       record {
         firm = bit (a .firm);
         drops = a .drops;
         offset = a .offset;
-        fields = rw (a .bytes) (fields _ _ _ _ _ reply known (omega arith) (omega (arith, firm .0)) (omega (arith, sizes .0)) (omega (arith, sizes .1)));
+        margin = a .margin;
+        fields =
+            rw (a .bytes)
+            (fields _ _ _ _ _ _ reply known (omega arith) (omega (arith, firm .0)) (omega (arith, sizes .0)) (omega (arith, sizes .1)) fits);
+        fits = fits;
         worst = λ _. a .worst;
         said = λ _. firm;
+        least = λ _. a .least;
         none = λ less. absurd (omega arith);
       }
 
   wrote-refusal :
-      (n : ℕ) → 2 < n → n < 65536 → after ≡ over (answerBytes (taskRecord task .id) n 0 0 0) reply → Written task slots n after
+      (n : ℕ) → 2 < n → n < 65536 → after ≡ over (answerBytes (taskRecord task .id) n 0 0 0 (pos 0)) reply → Written task slots n after
   wrote-refusal n more most bytes =
+      let none : SFits w32 (pos 0) = record { sfits = omega arith } in
       record {
         firm = 0;
         drops = 0;
         offset = 0;
-        fields = rw bytes (fields _ n 0 0 0 reply known (omega arith) (omega arith) (omega arith) (omega arith));
+        margin = pos 0;
+        fields = rw bytes (fields _ n 0 0 0 (pos 0) reply known (omega arith) (omega arith) (omega arith) (omega arith) none);
+        fits = none;
         worst = λ z. absurd (omega arith);
         said = λ z. absurd (omega arith);
-        none = λ _. (refl, refl, refl);
+        least = λ z. absurd (omega arith);
+        none = λ _. (refl, refl, refl, refl);
       }
 
   wrote : (n : ℕ) → n ≡ bodyRefusal (taskRecord task) slots → Judged task slots reply n after → Written task slots n after
@@ -113,19 +137,27 @@ module _ (task slots reply after : List ℕ) (known : le4 task 0 < 4294967296) w
 
   pub told :
       (a : Answer) → replyBytes ≤ length reply → Judged task slots reply (a .number) after → a .id ≡ le4 after 0
-      → a .refusal ≡ le2 after 4 → a .firm ≡ le2 after 6 → a .drops ≡ le4 after 8 → a .offset ≡ le4 after 12 → Told task slots reply a
-  told a long j id refusal firm drops offset =
+      → a .refusal ≡ le2 after 4 → a .firm ≡ le2 after 6 → a .drops ≡ le4 after 8 → a .offset ≡ le4 after 12
+      → a .margin ≡ signed (le4 after 16 % 4294967296) → Told task slots reply a
+  told a long j id refusal firm drops offset margin =
       record {
         number = j .number;
         id = λ other. id ∙ read other .fields .id;
         refusal = λ other. refusal ∙ read other .fields .refusal;
         worst = λ z. let w = read (λ one. omega arith) in rw (drops ∙ w .fields .drops, offset ∙ w .fields .offset) (w .worst z);
         firm = λ z. let w = read (λ one. omega arith) in rw (firm ∙ w .fields .firm) (w .said z);
+        least = λ z. let w = read (λ one. omega arith) in rw (signed-back w) (w .least z);
         zero = λ more.
             let w = read (λ one. omega arith) in
-            rw (firm ∙ w .fields .firm, drops ∙ w .fields .drops, offset ∙ w .fields .offset) (w .none more);
+            rw (firm ∙ w .fields .firm, drops ∙ w .fields .drops, offset ∙ w .fields .offset, signed-back w) (w .none more);
       }
     where
+      signed-back : (w : Written task slots (a .number) after) → a .margin ≡ w .margin
+      signed-back w =
+          let small = twos-small (w .margin) (w .fits) in
+          let same : le4 after 16 % 4294967296 ≡ twos (w .margin) = omega (arith, w .fields .margin) in
+          margin ∙ ap signed same ∙ signed-twos (w .margin) (w .fits)
+
       read : (a .number ≡ 1 → ⊥) → Written task slots (a .number) after
       read other = wrote (a .number) (j .number ∙ from-body task slots reply long (λ one. other (j .number ∙ one))) j
 
@@ -160,8 +192,9 @@ module _ (tasks slots reply after : List ℕ) (i : ℕ) (less : i < whole tasks)
   pub site-told :
       (a : Answer) → ((j : ℕ) → Fits w8 (getD tasks j 0)) → Sited tasks slots reply (a .number) after
       → a .id ≡ le4 after (replyBytes * i) → a .refusal ≡ le2 after (replyBytes * i + 4) → a .firm ≡ le2 after (replyBytes * i + 6)
-      → a .drops ≡ le4 after (replyBytes * i + 8) → a .offset ≡ le4 after (replyBytes * i + 12) → SiteTold tasks slots reply i a
-  site-told a byte s id refusal firm drops offset =
+      → a .drops ≡ le4 after (replyBytes * i + 8) → a .offset ≡ le4 after (replyBytes * i + 12)
+      → a .margin ≡ signed (le4 after (replyBytes * i + 16) % 4294967296) → SiteTold tasks slots reply i a
+  site-told a byte s id refusal firm drops offset margin =
       record {
         number = s .number;
         told = λ none.
@@ -172,5 +205,6 @@ module _ (tasks slots reply after : List ℕ) (i : ℕ) (less : i < whole tasks)
             refusal ∙ read2 4 (omega arith) ∙ written .fields .refusal in
             told (part tasks i) slots (place reply i) (place after i) (small-id byte) _ roomy-place (rw same judged)
             (id ∙ ap (le4 after) (sym (add-zero (replyBytes * i))) ∙ read4 0 (omega arith)) (refusal ∙ read2 4 (omega arith))
-            (firm ∙ read2 6 (omega arith)) (drops ∙ read4 8 (omega arith)) (offset ∙ read4 12 (omega arith));
+            (firm ∙ read2 6 (omega arith)) (drops ∙ read4 8 (omega arith)) (offset ∙ read4 12 (omega arith))
+            (margin ∙ ap (λ n. signed (n % 4294967296)) (read4 16 (omega arith)));
       }

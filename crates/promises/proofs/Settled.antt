@@ -9,10 +9,11 @@ use native.Mathlib.Decide.{ℕ-discrete}
 use native.Mathlib.Omega.{arith}
 use lib.ListN.{length}
 use lib.Seq.{ext-getD}
-use Rattle.octets.specs.Octets.{over}
+use Rattle.octets.specs.Octets.{twos, over}
 use Rattle.rules.specs.Sums.{bit}
 use Rattle.rules.proofs.Sums.{le-or-lt}
 use Rattle.rules.proofs.Worst.{worst-unique}
+use Rattle.rules.proofs.Least.{least-unique}
 use Rattle.rules.proofs.Grants.{grant-unique}
 use Rattle.limits.proofs.Refusals.{clash}
 use Rattle.records.specs.Records.{taskRecord, answerBytes}
@@ -20,13 +21,13 @@ use Rattle.records.specs.Lookup.{part}
 use Rattle.records.specs.Troubles.{aboutSlot, FirstAt, Placed}
 use Rattle.records.specs.declared.board.Trouble.{Trouble}
 use Rattle.judge.specs.Judge.{Judged, Answered}
-use Rattle.judge.specs.Points.{suppliedAt, droppedAt, countedAt}
+use Rattle.judge.specs.Points.{suppliedAt, marginAt, countedAt}
 use Rattle.site.proofs.Laws as site
 use Rattle.grants.specs.Grants.{GrantCall, Marked, grantRefusal}
 use Rattle.lines.specs.Lines.{lineOf}
 use Rattle.sheets.specs.Sheets.{Row, Rows, none, more, Sheet, bad, rest}
 use Rattle.fiddlequill.specs.Packed.{packed}
-use Rattle.promises.specs.Settled.{JudgeSettled, SiteSettled, WhichSettled, PackedWhichSettled, PointSettled, PointsSettled, CountSettled, GrantSettled, PackedSettled, LookupSettled, PutSettled, SheetSettled}
+use Rattle.promises.specs.Settled.{JudgeSettled, SiteSettled, WhichSettled, PackedWhichSettled, PointSettled, PointsSettled, PackedPointSettled, PackedPointsSettled, GrantSettled, PackedSettled, LookupSettled, PutSettled, SheetSettled}
 
 -- ---- judging
 
@@ -42,10 +43,9 @@ same-answer :
 same-answer task slots reply after after′ a b =
     let worst = worst-unique _ _ _ _ _ _ _ (a .worst) (b .worst) in
     let firm : a .firm ≡ b .firm = same-bit (a .firm) (b .firm) (a .said) (b .said) in
+    let least : a .margin ≡ b .margin = least-unique _ _ _ _ _ (a .least) (b .least) in
     a .bytes
-    ∙ ap (λ f. over (answerBytes (taskRecord task .id) 0 (bit f) (a .drops) (a .offset)) reply) firm
-    ∙ ap (λ c. over (answerBytes (taskRecord task .id) 0 (bit (b .firm)) c (a .offset)) reply) (worst .0)
-    ∙ ap (λ o. over (answerBytes (taskRecord task .id) 0 (bit (b .firm)) (b .drops) o) reply) (worst .1)
+    ∙ (λ i. over (answerBytes (taskRecord task .id) 0 (bit (firm i)) (worst .0 i) (worst .1 i) (least i)) reply)
     ∙ sym (b .bytes)
 
 -- A number is 0, is 1 or 2, or is more.
@@ -108,10 +108,14 @@ point-settled : {A : Type 0} (value : List ℕ → List ℕ → ℕ → A) → P
 point-settled value task slots x n n′ a a′ p q = (p .0 ∙ sym (q .0), p .1 ∙ sym (q .1))
 
 pub points-settled : PointsSettled
-points-settled = (point-settled suppliedAt, point-settled droppedAt, point-settled countedAt)
+points-settled = (point-settled suppliedAt, point-settled marginAt, point-settled countedAt)
 
-pub count-settled : CountSettled
-count-settled task slots x r r′ p q = p ∙ sym q
+packed-point : (value : List ℕ → List ℕ → ℕ → ℕ) → PackedPointSettled value
+packed-point value task slots x r r′ p q = p ∙ sym q
+
+pub packed-points-settled : PackedPointsSettled
+packed-points-settled =
+    (packed-point suppliedAt, packed-point (λ task slots x. twos (marginAt task slots x)), packed-point countedAt)
 
 -- ---- granting
 

@@ -2,19 +2,23 @@
 --
 --     CountCertain    a task that was judged is counted from every half tick of the wheel
 --     WorstCounted    counting at the worst offset gives the worst count, and no half tick gives more
+--     LeastMeasured   no half tick of a task that was judged has a margin below twice the least one, and some whole tick has just that
 --     GrantNone       a grant is of no slots exactly when m is 0, and then no mark moves
 --     GrantCertain    the task is granted where nothing is refused and all free slots together are firm
 use mathlib.Core.Path.{_≡_}
 use mathlib.Core.Logic.{_↔_}
 use mathlib.Core.List.{List}
 use Prim.Native.Nat.{ℕ, _*_, _≤_, _<_}
+use lib.IntN.{ℤ, pos, _*ℤ_}
+use lib.Signed.{_≤ℤ_}
 use lib.ListN.{length}
 use Rattle.rules.specs.Worst.{Worst, Firm}
+use Rattle.rules.specs.Least.{Least}
 use Rattle.rules.specs.Grant.{gridTicks}
 use Rattle.records.specs.Records.{taskRecord, ticksOf, askedOf}
 use Rattle.records.specs.Refusals.{judgeRefusal, pointRefusal}
 use Rattle.ticks.specs.Ticks.{freeOf}
-use Rattle.judge.specs.Points.{countedAt}
+use Rattle.judge.specs.Points.{marginAt, countedAt}
 use Rattle.grants.specs.Grants.{grantRefusal, askedFor, GrantCall}
 
 abbrev pub CountCertain : Type 0
@@ -27,6 +31,13 @@ WorstCounted =
     (task slots reply : List ℕ) (c o : ℕ)
     → judgeRefusal task slots reply ≡ 0 → Worst (taskRecord task .w) (ticksOf (taskRecord task) slots) (askedOf (taskRecord task)) c o
     → (countedAt task slots o ≡ c) × ((x : ℕ) → countedAt task slots x ≤ c)
+
+abbrev pub LeastMeasured : Type 0
+LeastMeasured =
+    (task slots reply : List ℕ) (g : ℤ)
+    → judgeRefusal task slots reply ≡ 0 → Least (taskRecord task .w) (ticksOf (taskRecord task) slots) (askedOf (taskRecord task)) g
+    → ((x : ℕ) → x < 2 * taskRecord task .w → (pos 2 *ℤ g) ≤ℤ marginAt task slots x)
+    × ((a : ℕ) × (a < taskRecord task .w) × (marginAt task slots (2 * a) ≡ (pos 2 *ℤ g)))
 
 abbrev pub GrantNone : Type 0
 GrantNone =

@@ -8,7 +8,8 @@ use Rattle.records.specs.Lookup.{lookedUp}
 use Rattle.records.specs.declared.board.Trouble.{Trouble}
 use Rattle.which.specs.Which.{Which}
 use Rattle.judge.specs.Judge.{Judged}
-use Rattle.judge.specs.Points.{suppliedAt, droppedAt, countedAt}
+use Rattle.octets.specs.Octets.{twos}
+use Rattle.judge.specs.Points.{suppliedAt, marginAt, countedAt}
 use Rattle.site.specs.Site.{Sited}
 use Rattle.grants.specs.Grants.{GrantCall}
 use Rattle.lines.specs.Lines.{Put}
@@ -35,7 +36,7 @@ WhichSettled = (task slots : List ℕ) (t t′ : Trouble) → Which task slots t
 abbrev pub PackedWhichSettled : Type 0
 PackedWhichSettled = (task slots : List ℕ) (r r′ : ℕ) → PackedWhich task slots r → PackedWhich task slots r′ → r ≡ r′
 
--- judge::supply, judge::drop_test, judge::count: the number and the value beside it.
+-- judge::supply, judge::margin, judge::count: the number and the value beside it.
 abbrev pub PointSettled : {A : Type 0} → (List ℕ → List ℕ → ℕ → A) → Type 0
 PointSettled {A} value =
     (task slots : List ℕ) (x n n′ : ℕ) (a a′ : A)
@@ -43,14 +44,18 @@ PointSettled {A} value =
     → (n′ ≡ pointRefusal task slots x) × (a′ ≡ value task slots x) → (n ≡ n′) × (a ≡ a′)
 
 abbrev pub PointsSettled : Type 0
-PointsSettled = PointSettled suppliedAt × PointSettled droppedAt × PointSettled countedAt
+PointsSettled = PointSettled suppliedAt × PointSettled marginAt × PointSettled countedAt
 
--- fiddlequill_count: the packed number.
-abbrev pub CountSettled : Type 0
-CountSettled =
+-- fiddlequill_supply, fiddlequill_margin, fiddlequill_count: the packed number.
+abbrev pub PackedPointSettled : (List ℕ → List ℕ → ℕ → ℕ) → Type 0
+PackedPointSettled value =
     (task slots : List ℕ) (x r r′ : ℕ)
-    → r ≡ packed (pointRefusal task slots x) (countedAt task slots x)
-    → r′ ≡ packed (pointRefusal task slots x) (countedAt task slots x) → r ≡ r′
+    → r ≡ packed (pointRefusal task slots x) (value task slots x)
+    → r′ ≡ packed (pointRefusal task slots x) (value task slots x) → r ≡ r′
+
+abbrev pub PackedPointsSettled : Type 0
+PackedPointsSettled =
+    PackedPointSettled suppliedAt × PackedPointSettled (λ task slots x. twos (marginAt task slots x)) × PackedPointSettled countedAt
 
 -- grants::grant: the number, j and the marks.
 abbrev pub GrantSettled : Type 0

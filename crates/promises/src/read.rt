@@ -1,14 +1,16 @@
 // The C calls' answers taken apart as their callers do it: what is read is what the rules say.
 ghost use mathlib.Core.Path.{_≡_};
-ghost use Prim.Native.Nat.{_*_, _/_, _%_, _≤_, _<_};
+ghost use Prim.Native.Nat.{_+_, _*_, _/_, _%_, _≤_, _<_};
 ghost use lib.ListN.{length};
 ghost use Rattle.records.specs.Records.{replyBytes};
 ghost use Rattle.records.specs.Refusals.{pointRefusal};
 ghost use Rattle.records.specs.Lookup.{whole};
 ghost use Rattle.which.specs.Which.{Which};
-ghost use Rattle.judge.specs.Points.{countedAt};
+ghost use Rattle.octets.specs.Octets.{le4, signed};
+ghost use Rattle.judge.specs.Points.{suppliedAt, marginAt, countedAt};
 ghost use Rattle.grants.specs.Grants.{GrantCall};
 ghost use Rattle.promises.specs.Answers.{Told, SiteTold};
+use judge::Measured;
 use records::board::Trouble;
 
 // The number that judging gives, and the fields of the answer record.
@@ -19,6 +21,7 @@ pub struct Answer {
     pub firm: usize,
     pub drops: usize,
     pub offset: usize,
+    pub margin: i32,
 }
 
 // The two numbers of a packed result.
@@ -36,6 +39,14 @@ fn unpack(packed: u64) -> Pair
     }
 }
 
+// The signed number in four bytes.
+fn signed_four(s: &[u8], at: usize) -> i32
+    requires { ⌜ at + 4 ≤ length (now s) ⌝ }
+    ensures { λ r. ⌜ r ≡ signed (le4 (now (s .entry)) at % 4294967296) ⌝ }
+{
+    octets::signed((octets::four(s, at) % 4294967296) as u32)
+}
+
 pub fn judge(task: &[u8], slots: &[u8], reply: &mut [u8]) -> Answer
     requires { ⌜ replyBytes ≤ length (now reply) ⌝ }
     ensures { λ r. ⌜ Told (now (task .entry)) (now (slots .entry)) (now (reply .entry)) r ⌝ }
@@ -48,6 +59,7 @@ pub fn judge(task: &[u8], slots: &[u8], reply: &mut [u8]) -> Answer
         firm: octets::two(reply, 6),
         drops: octets::four(reply, 8),
         offset: octets::four(reply, 12),
+        margin: signed_four(reply, 16),
     }
 }
 
@@ -65,6 +77,7 @@ pub fn site(tasks: &[u8], slots: &[u8], reply: &mut [u8], i: usize) -> Answer
         firm: octets::two(reply, at + 6),
         drops: octets::four(reply, at + 8),
         offset: octets::four(reply, at + 12),
+        margin: signed_four(reply, at + 16),
     }
 }
 
@@ -75,6 +88,22 @@ pub fn which_slot(task: &[u8], slots: &[u8]) -> Trouble
     Trouble {
         number: parts.number,
         place: parts.value,
+    }
+}
+
+pub fn supply(task: &[u8], slots: &[u8], offset: u64) -> Pair
+    ensures { λ r. ⌜ (r .number ≡ pointRefusal (now (task .entry)) (now (slots .entry)) offset) × (r .value ≡ suppliedAt (now (task .entry)) (now (slots .entry)) offset) ⌝ }
+{
+    unpack(fiddlequill::fiddlequill_supply(task, slots, offset))
+}
+
+pub fn margin(task: &[u8], slots: &[u8], offset: u64) -> Measured
+    ensures { λ r. ⌜ (r .number ≡ pointRefusal (now (task .entry)) (now (slots .entry)) offset) × (r .margin ≡ marginAt (now (task .entry)) (now (slots .entry)) offset) ⌝ }
+{
+    let parts = unpack(fiddlequill::fiddlequill_margin(task, slots, offset));
+    Measured {
+        number: parts.number,
+        margin: octets::signed(parts.value),
     }
 }
 

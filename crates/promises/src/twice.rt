@@ -3,8 +3,8 @@ ghost use mathlib.Core.Path.{_≡_};
 ghost use Rattle.records.specs.Lookup.{lookedUp};
 use grants::Granted;
 use judge::Counted;
+use judge::Measured;
 use judge::Supplied;
-use judge::Tested;
 use records::board::Trouble;
 use sheets::MOST_TEXT;
 
@@ -33,9 +33,9 @@ pub struct Supplies {
     pub other: Supplied,
 }
 
-pub struct Tests {
-    pub one: Tested,
-    pub other: Tested,
+pub struct Margins {
+    pub one: Measured,
+    pub other: Measured,
 }
 
 pub struct Counts {
@@ -86,12 +86,12 @@ pub fn supply(task: &[u8], slots: &[u8], offset: u64) -> Supplies
     }
 }
 
-pub fn drop_test(task: &[u8], slots: &[u8], offset: u64) -> Tests
-    ensures { λ r. ⌜ (r .one .number ≡ r .other .number) × (r .one .dropped ≡ r .other .dropped) ⌝ }
+pub fn margin(task: &[u8], slots: &[u8], offset: u64) -> Margins
+    ensures { λ r. ⌜ (r .one .number ≡ r .other .number) × (r .one .margin ≡ r .other .margin) ⌝ }
 {
-    Tests {
-        one: judge::drop_test(task, slots, offset),
-        other: judge::drop_test(task, slots, offset),
+    Margins {
+        one: judge::margin(task, slots, offset),
+        other: judge::margin(task, slots, offset),
     }
 }
 
@@ -164,6 +164,24 @@ pub fn fiddlequill_which_slot(task: &[u8], slots: &[u8]) -> Packed
     Packed {
         one: fiddlequill::fiddlequill_which_slot(task, slots),
         other: fiddlequill::fiddlequill_which_slot(task, slots),
+    }
+}
+
+pub fn fiddlequill_supply(task: &[u8], slots: &[u8], offset: u64) -> Packed
+    ensures { λ r. ⌜ r .one ≡ r .other ⌝ }
+{
+    Packed {
+        one: fiddlequill::fiddlequill_supply(task, slots, offset),
+        other: fiddlequill::fiddlequill_supply(task, slots, offset),
+    }
+}
+
+pub fn fiddlequill_margin(task: &[u8], slots: &[u8], offset: u64) -> Packed
+    ensures { λ r. ⌜ r .one ≡ r .other ⌝ }
+{
+    Packed {
+        one: fiddlequill::fiddlequill_margin(task, slots, offset),
+        other: fiddlequill::fiddlequill_margin(task, slots, offset),
     }
 }
 

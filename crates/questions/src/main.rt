@@ -1,4 +1,4 @@
-// Answers the questions of questions.bin, a line each: the supply, the drop test, the count and the lookup of two byte strings and a number.
+// Answers the questions of questions.bin, a line each: the supply, the margin, the count and the lookup of two byte strings and a number.
 ghost use Prim.Native.Nat.{_+_, _≤_};
 ghost use lib.ListN.{length};
 use libc::STDOUT_FILENO;
@@ -19,11 +19,14 @@ fn number(n: u64) {
     text(b" ");
 }
 
-fn test(yes: bool) {
-    if yes {
-        number(1);
+// The same of a signed number, from its two's complement.
+fn signed(z: i32) {
+    let bits = octets::twos(z);
+    if bits < 2147483648 {
+        number(bits as u64);
     } else {
-        number(0);
+        text(b"-");
+        number(4294967296 - bits as u64);
     }
 }
 
@@ -31,10 +34,10 @@ fn test(yes: bool) {
 fn points(task: &[u8], slots: &[u8], offset: u64) {
     let s = judge::supply(task, slots, offset);
     number(s.number as u64);
-    number(s.supply);
-    let t = judge::drop_test(task, slots, offset);
-    number(t.number as u64);
-    test(t.dropped);
+    number(s.supply as u64);
+    let g = judge::margin(task, slots, offset);
+    number(g.number as u64);
+    signed(g.margin);
     let c = judge::count(task, slots, offset);
     number(c.number as u64);
     number(c.count as u64);

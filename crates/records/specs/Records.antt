@@ -7,11 +7,12 @@
 --     boardOf r l                  the slots that a task record selects, all the painter's
 --     ticksOf r l                  the ticks they make usable (rule 1)
 --     askedOf r                    the rules' task of a task record
---     answerBytes id n f c o       an answer record: id, refusal number, firm 1 or 0, worst count, worst offset
+--     answerBytes id n f c o g     an answer record: id, refusal number, firm 1 or 0, worst count, worst offset, least margin
 use mathlib.Core.Bool.{true}
 use mathlib.Core.List.{List, _++_}
 use Prim.Native.Nat.{ℕ, _+_, _*_}
-use Rattle.octets.specs.Octets.{le2, le4, bytes2, bytes4}
+use lib.IntN.{ℤ}
+use Rattle.octets.specs.Octets.{le2, le4, bytes2, bytes4, twos}
 use Rattle.rules.specs.Sums.{Subset}
 use Rattle.rules.specs.Supply as rules
 use Rattle.rules.specs.Usable.{Slot, Table, usable}
@@ -25,7 +26,7 @@ abbrev pub slotBytes : ℕ
 slotBytes = 8
 
 abbrev pub replyBytes : ℕ
-replyBytes = 16
+replyBytes = 20
 
 abbrev pub taskRecord : List ℕ → TaskRecord
 taskRecord l =
@@ -56,5 +57,5 @@ ticksOf r l = usable (r .w) (boardOf r l)
 abbrev pub askedOf : TaskRecord → rules.Task
 askedOf r = record { e = r .e; D = r .d; h = r .h; m = r .m; k = r .k }
 
-abbrev pub answerBytes : ℕ → ℕ → ℕ → ℕ → ℕ → List ℕ
-answerBytes id n f c o = bytes4 id ++ bytes2 n ++ bytes2 f ++ bytes4 c ++ bytes4 o
+abbrev pub answerBytes : ℕ → ℕ → ℕ → ℕ → ℕ → ℤ → List ℕ
+answerBytes id n f c o g = bytes4 id ++ bytes2 n ++ bytes2 f ++ bytes4 c ++ bytes4 o ++ bytes4 (twos g)

@@ -11,11 +11,12 @@ use lib.Seq.{length-take-le}
 use Rattle.rules.specs.Sums.{Subset}
 use Rattle.rules.specs.Supply.{count}
 use Rattle.rules.specs.Worst.{Worst, Firm, firmTest}
+use Rattle.rules.specs.Least.{Least}
 use Rattle.limits.specs.Limits.{asked}
 use Rattle.limits.specs.declared.Task.{Task}
 use Rattle.runs.specs.Runs.{Laid, Runs, LaidIn}
 use Rattle.runs.proofs.Edges.{runs-of}
-use Rattle.room.specs.Room.{mostEdges, Found, Judges, Tallied}
+use Rattle.room.specs.Room.{mostEdges, Foremost, Nearest, Found, Judges, Tallied}
 use Rattle.room.specs.declared.Peak.{Peak}
 
 pub handed :
@@ -26,9 +27,9 @@ handed {l} {l′} {n} laid long =
 
 pub found :
     (l : List ℕ) (w : ℕ) (t : Task) (r : Peak) → Found l w t r → (u : Subset) → Laid l w u
-    → Worst w u (asked t) (r .drops) (r .offset)
-unfolding Found
-found l w t r f = f
+    → Worst w u (asked t) (r .drops) (r .offset) × Least w u (asked t) (r .margin)
+unfolding Foremost Nearest
+found l w t r f u laid = (f .0 u laid, f .1 u laid)
 
 pub judged :
     (l : List ℕ) (w : ℕ) (t : Task) (c : ℕ) → Judges l w t c → (u : Subset) → Laid l w u

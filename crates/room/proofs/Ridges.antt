@@ -4,27 +4,36 @@
 -- tick 0, before which there is none.
 -- In order: the ridge of late runs; no half tick is above it, and offsets; what is found; the verdict. Assumes nothing.
 use mathlib.Core.Path.{_≡_, refl, sym, ap, _∙_}
+use mathlib.Core.Bool.{Bool, true, false}
 use mathlib.Core.List.{List}
 use Prim.Native.Nat.{ℕ, zero, suc, _+_, _-_, _*_, _/_, _%_, _≤_, _<_}
-use native.Mathlib.Nat.{le-refl, le-antisymm, mod-lt, mul-zero, zero-mul, add-zero}
+use native.Mathlib.Nat.{le-antisymm, mod-lt, mul-zero, zero-mul, add-zero}
 use native.Mathlib.Omega.{arith}
+use lib.IntN.{ℤ, pos}
+use lib.Signed.{ltZ}
 use lib.ListN.{length, take}
+use mir.Syntax.{w32}
+use mir.Val.{SFits, toZ, ofZ}
+use mir.Facts.{toZ-ofZ}
 use lib.Seq.{length-take-le}
-use borrow.Author.Tests.{leb-true}
+use borrow.Author.Tests.{leb-true, le-leb}
 use Rattle.rules.specs.Sums.{Subset, bit}
 use Rattle.rules.specs.Supply as rules
 use Rattle.rules.specs.Supply.{dropped, drops, count}
 use Rattle.rules.specs.Worst.{Wheel, Worst, Firm, firmTest}
-use Rattle.rules.proofs.Sums.{sum-const, number-longer, number-more, number-none}
+use Rattle.rules.specs.Least.{Painted}
+use Rattle.rules.proofs.Sums.{sum-const, number-const, number-longer, number-more, number-none}
+use Rattle.rules.proofs.Signed.{zero-le, not-zero-le}
 use Rattle.rules.proofs.Zones.{count-after, count-before}
 use Rattle.rules.proofs.Worst.{worst-of-best, worst-exists, firm-agrees}
+use Rattle.rules.proofs.Least.{least-tells, least-dropped}
 use Rattle.limits.specs.Limits.{asked, mostTicks}
 use Rattle.limits.specs.declared.Task.{Task}
 use Rattle.runs.specs.Runs.{edge, Laid, Runs}
 use Rattle.runs.proofs.Edges.{edge-past}
 use Rattle.maps.specs.Maps.{Drawn, Top, strips}
 use Rattle.late.specs.Late.{LateIn}
-use Rattle.room.specs.Room.{Lent, Largest, met, Topped, Highest, Found, Judges, Tallied}
+use Rattle.room.specs.Room.{Lent, Largest, met, Topped, Highest, Foremost, Nearest, Judges, Tallied}
 use Rattle.room.proofs.Sides.{from-side, met-drawn}
 
 -- ---- the ridge of late runs
@@ -69,21 +78,37 @@ topped-drawn l w m h k long drawn c a top z laid =
     })
 
 pub highest :
-    (l : List ℕ) (w : ℕ) (t : Task) (n : ℕ) (late late′ : List ℕ) (x c a : ℕ) → LateIn l w t 1 late n late′ → x ≡ w
+    {g : ℤ} (l : List ℕ) (w : ℕ) (t : Task) (n : ℕ) (late late′ : List ℕ) (x c a : ℕ) → LateIn l w t 1 late n g late′ → x ≡ w
     → Topped (take n late′) x (t .h) (t .k) c a → Highest l w t c a
 unfolding Topped Highest count
 highest l w t n late late′ x c a lates long top u laid =
     largest-same (λ i _. from-side w u (laid .wheel) (asked t) 1 (t .k) i)
     (rw long at (top (λ a. dropped 2 u (asked t) (2 * a + 1)) (rw long (lates .laid u laid))))
 
+pub nearest :
+    {l : List ℕ} {w : ℕ} {t : Task} {side n : ℕ} {g : ℤ} {late late′ : List ℕ} → LateIn l w t side late n g late′ → Nearest l w t g
+unfolding Nearest
+nearest lates = lates .least
+
 -- The largest count along the late runs is that half a tick after a tick, and what the work was lent stays lent.
 pub ridged :
-    (l : List ℕ) (w : ℕ) (t : Task) (n : ℕ) (late late′ map map′ : List ℕ) (c a : ℕ) → Lent l w t late map → LateIn l w t 1 late n late′
-    → length map′ ≡ length map → Topped (take n late′) (length map′) (t .h) (t .k) c a → Highest l w t c a × Lent l w t late′ map′
+    {g : ℤ} (l : List ℕ) (w : ℕ) (t : Task) (n : ℕ) (late late′ map map′ : List ℕ) (c a : ℕ) → Lent l w t late map
+    → LateIn l w t 1 late n g late′ → length map′ ≡ length map → Topped (take n late′) (length map′) (t .h) (t .k) c a
+    → Highest l w t c a × (Nearest l w t g × Lent l w t late′ map′)
 ridged l w t n late late′ map map′ c a lent lates kept top = (
   highest l w t n late late′ (length map′) c a lates (kept ∙ lent .long) top,
-  record { runs = lent .runs; within = lent .within; room = omega (arith, lent .room, lates .long); long = kept ∙ lent .long },
+  (
+    nearest lates,
+    record { runs = lent .runs; within = lent .within; room = omega (arith, lent .room, lates .long); long = kept ∙ lent .long },
+  ),
 )
+
+-- The same of a summit made of it.
+pub summited :
+    {l : List ℕ} {w : ℕ} {t : Task} {late map : List ℕ} {c a drops at : ℕ} {g margin : ℤ} → SFits w32 g
+    → (drops ≡ c) × (at ≡ a) × (margin ≡ toZ w32 (ofZ w32 g)) → Highest l w t c a × (Nearest l w t g × Lent l w t late map)
+    → Highest l w t drops at × (Nearest l w t margin × Lent l w t late map)
+summited fits e h = rw (e .0, e .1, e .2, toZ-ofZ fits) h
 
 pub highest-inside :
     (l : List ℕ) (w : ℕ) (t : Task) (late map : List ℕ) (c a : ℕ) → Lent l w t late map → Highest l w t c a → a < mostTicks
@@ -153,30 +178,25 @@ module _ (w : ℕ) (u : Subset) (t : rules.Task) {c a : ℕ} (r : Largest (λ i.
 -- ---- what is found
 
 -- Where no half tick after a tick has drops, tick 0 has none.
-pub found-none : (l : List ℕ) (w : ℕ) (t : Task) (a : ℕ) → Highest l w t 0 a → Found l w t (record { drops = 0; offset = 0 })
-unfolding Highest Found
+pub found-none : (l : List ℕ) (w : ℕ) (t : Task) (a : ℕ) → Highest l w t 0 a → Foremost l w t 0 0
+unfolding Highest Foremost
 found-none l w t a high u laid =
     let r = high u laid in
     let z : count 2 u (asked t) 0 ≤ 0 = ridge-bound w u (asked t) r 0 (omega (arith, laid .wheel .some)) in
     worst-zero w u (asked t) r (laid .wheel) (omega arith)
 
-pub found-later :
-    (l : List ℕ) (w : ℕ) (t : Task) (c a : ℕ) → Highest l w t c a → (a ≡ 0 → ⊥)
-    → Found l w t (record { drops = c; offset = 2 * a + 1 })
-unfolding Highest Found
+pub found-later : (l : List ℕ) (w : ℕ) (t : Task) (c a : ℕ) → Highest l w t c a → (a ≡ 0 → ⊥) → Foremost l w t c (2 * a + 1)
+unfolding Highest Foremost
 found-later l w t c a high off u laid = worst-odd w u (asked t) (high u laid) (laid .wheel) (λ e _. off e)
 
-pub found-start :
-    (l : List ℕ) (w : ℕ) (t : Task) (c a : ℕ) → Highest l w t c a → Tallied l w t 0 c
-    → Found l w t (record { drops = c; offset = 0 })
-unfolding Highest Found Tallied
+pub found-start : (l : List ℕ) (w : ℕ) (t : Task) (c a : ℕ) → Highest l w t c a → Tallied l w t 0 c → Foremost l w t c 0
+unfolding Highest Foremost Tallied
 found-start l w t c a high tally u laid = worst-zero w u (asked t) (high u laid) (laid .wheel) (sym (tally u laid))
 
 -- Half a tick after tick 0, where tick 0 itself has another count.
 pub found-half :
-    (l : List ℕ) (w : ℕ) (t : Task) (c a n : ℕ) → Highest l w t c a → a ≡ 0 → Tallied l w t 0 n → (n ≡ c → ⊥)
-    → Found l w t (record { drops = c; offset = 1 })
-unfolding Highest Found Tallied
+    (l : List ℕ) (w : ℕ) (t : Task) (c a n : ℕ) → Highest l w t c a → a ≡ 0 → Tallied l w t 0 n → (n ≡ c → ⊥) → Foremost l w t c 1
+unfolding Highest Foremost Tallied
 found-half l w t c a n high zero-at tally other u laid =
     let start : Largest (λ i. count 2 u (asked t) (2 * i + 1)) w c 0 = rw zero-at at (high u laid) in
     worst-odd w u (asked t) start (laid .wheel) (λ _ e. other (tally u laid ∙ e))
@@ -193,33 +213,40 @@ judged l w t c a high u laid =
     let above : c ≤ worst .0 = rw (r .hit) at (worst .2 .bound 2 (2 * a + 1) (omega arith)) in
     rw (le-antisymm below above) at (firm-agrees w u (asked t) (worst .0) (worst .1) (worst .2))
 
--- Without late runs nothing drops.
-pub judged-none :
-    (l : List ℕ) (w : ℕ) (t : Task) (n : ℕ) (late late′ : List ℕ) → LateIn l w t 1 late n late′ → n ≡ 0 → Judges l w t 0
-judged-none l w t n late late′ lates none =
-    judged l w t 0 0
-    (highest l w t n late late′ w 0 0 lates refl
-    (topped-none (take n late′) w (t .h) (t .k) (length-take-le n late′ (lates .room) ∙ none)))
+-- Where all strips must be painted the sign of the least margin tells, as a signed local has it.
+module _ (l : List ℕ) (w : ℕ) (t : Task) (g : ℤ) (fits : SFits w32 g) (near : Nearest l w t g) (all : t .m ≡ t .k) (some : 0 < t .k) where
+  sign : (b : Bool) → ltZ (toZ w32 (ofZ w32 g)) (pos 0) ≡ b → ltZ g (pos 0) ≡ b
+  sign b e = ap (λ z. ltZ z (pos 0)) (sym (toZ-ofZ fits)) ∙ e
+
+  pub judged-painted : ltZ (toZ w32 (ofZ w32 g)) (pos 0) ≡ false → Judges l w t 0
+  unfolding Nearest Judges Painted Firm firmTest count drops bit
+  judged-painted above u laid = (
+    λ _ q p q+.
+        let painted = least-tells w u (asked t) g (near u laid) .0 (zero-le g (sign false above)) in
+        let none = number-const (λ i. dropped q u (asked t) (p + i * (q * t .h))) false (t .k) (λ i _. painted q (p + i * (q * t .h)) q+) in
+        omega (arith, none, mul-zero (t .k)),
+    λ _. le-leb 0 (t .k - t .m) (omega arith),
+  )
+
+  -- The strip with that margin drops, which is one too many.
+  pub judged-short : ltZ (toZ w32 (ofZ w32 g)) (pos 0) ≡ true → Judges l w t 1
+  unfolding Nearest Judges Firm firmTest count drops bit
+  judged-short below u laid = (
+    λ e. absurd (omega (arith, leb-true 1 (t .k - t .m) e)),
+    λ firm.
+        let least = near u laid in
+        let a : ℕ = least .place in
+        let strip : Subset = λ i. dropped 1 u (asked t) (a + i * (1 * t .h)) in
+        let late : dropped 1 u (asked t) a ≡ true = least-dropped w u (asked t) g least (not-zero-le g (sign true below)) in
+        let first : strip 0 ≡ true = rw (zero-mul, add-zero) late in
+        let one : bit (strip 0) ≡ 1 = ap bit first in
+        absurd (omega (arith, firm 1 a (omega arith), number-longer strip 1 (t .k) some, number-more strip 0, number-none strip)),
+  )
 
 pub tallied-none :
-    (l : List ℕ) (w : ℕ) (t : Task) (x n : ℕ) (late late′ : List ℕ) → LateIn l w t (x % 2) late n late′ → n ≡ 0 → Tallied l w t x 0
+    {g : ℤ} (l : List ℕ) (w : ℕ) (t : Task) (x n : ℕ) (late late′ : List ℕ) → LateIn l w t (x % 2) late n g late′ → n ≡ 0 → Tallied l w t x 0
 unfolding Tallied count
 tallied-none l w t x n late late′ lates none u laid =
     let whole : 2 * (x / 2) + x % 2 ≡ x = omega arith in
     none-met _ w _ (lates .laid u laid) (length-take-le n late′ (lates .room) ∙ none) (t .h) (t .k) (x / 2)
     ∙ from-side w u (laid .wheel) (asked t) (x % 2) (t .k) (x / 2) ∙ ap (drops 2 u (asked t) (t .k)) whole
-
--- A late tick drops the first of the strips from there, which is one too many where all must be painted.
-pub judged-one :
-    (l : List ℕ) (w : ℕ) (t : Task) (n : ℕ) (late late′ : List ℕ) → LateIn l w t 1 late n late′
-    → edge (take n late′) w (suc 0) < edge (take n late′) w (suc 1) → t .m ≡ t .k → 0 < t .k → Judges l w t 1
-unfolding Judges Firm firmTest count drops edge
-judged-one l w t n late late′ lates begins all some u laid = (
-  λ e. absurd (omega (arith, leb-true 1 (t .k - t .m) e)),
-  λ firm.
-      let a : ℕ = edge (take n late′) w (suc 0) in
-      let late : bit (dropped 2 u (asked t) (2 * a + 1)) ≡ 1 = lates .laid u laid .lay .alike 1 a (le-refl _) begins in
-      let strip : Subset = λ i. dropped 2 u (asked t) (2 * a + 1 + i * (2 * t .h)) in
-      let first : bit (strip 0) ≡ 1 = rw (zero-mul, add-zero) late in
-      absurd (omega (arith, firm 2 (2 * a + 1) (omega arith), number-longer strip 1 (t .k) some, number-more strip 0, number-none strip)),
-)

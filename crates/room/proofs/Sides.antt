@@ -7,6 +7,7 @@ use mathlib.Core.List.{List}
 use Prim.Native.Nat.{ℕ, _+_, _*_, _/_, _%_, _≤_, _<_, min}
 use native.Mathlib.Nat.{mul-comm, mul-left-comm, div-add-mod}
 use native.Mathlib.Omega.{arith}
+use lib.IntN.{ℤ}
 use lib.ListN.{length, getD, take, List·getD-eq-default}
 use lib.Seq.{length-take-le}
 use Rattle.rules.specs.Sums.{Subset, bit, number}
@@ -84,8 +85,8 @@ lent-part l w t late map A (runs, within, room, long, _) =
 
 -- The late runs are runs of some set on a wheel as long as the map, and have no more edges than it has ticks.
 pub lates-runs :
-    {l : List ℕ} {w : ℕ} {t : Task} {side n : ℕ} {late late′ map : List ℕ} → Lent l w t late map
-    → LateIn l w t side late n late′ → Runs (take n late′) (length map) × (length (take n late′) ≤ length map)
+    {l : List ℕ} {w : ℕ} {t : Task} {side n : ℕ} {g : ℤ} {late late′ map : List ℕ} → Lent l w t late map
+    → LateIn l w t side late n g late′ → Runs (take n late′) (length map) × (length (take n late′) ≤ length map)
 unfolding Runs
 lates-runs {t = t} {side} {n} {late′ = late′} lent lates = (
   (λ a. dropped 2 (lent .runs .0) (asked t) (2 * a + side), rw (lent .long) (lates .laid (lent .runs .0) (lent .runs .1))),
@@ -95,8 +96,8 @@ lates-runs {t = t} {side} {n} {late′ = late′} lent lates = (
 -- ---- a count
 
 pub tallied :
-    (l : List ℕ) (w : ℕ) (t : Task) (x n r : ℕ) (late late′ map map′ : List ℕ) → Lent l w t late map
-    → LateIn l w t (x % 2) late n late′ → length map′ ≡ length map
+    {g : ℤ} (l : List ℕ) (w : ℕ) (t : Task) (x n r : ℕ) (late late′ map map′ : List ℕ) → Lent l w t late map
+    → LateIn l w t (x % 2) late n g late′ → length map′ ≡ length map
     → ((z : Subset) → Laid (take n late′) (length map) z → Drawn map′ z) → r ≡ fallen map′ (t .h) (t .k) (x / 2)
     → Tallied l w t x r
 unfolding Tallied count

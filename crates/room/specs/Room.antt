@@ -9,9 +9,10 @@
 --     Topped l w h k c a        the largest such number for every set that the runs l lay out, and the first tick that has it
 --     Outlined l m h k o        that number is known, or the map m is drawn, and the largest count along it is that number
 --     Highest l w t c a         the largest count half a tick after a tick, for every set of ticks that the runs lay out, and the first such tick
---     Found l w t r             r is the worst count and offset (rule 6) of every such set
+--     Foremost l w t c o        c is the worst count and o the worst offset (rule 6) of every such set
+--     Nearest l w t g           g is the least margin of every such set
+--     Found l w t r             r has both
 --     Judges l w t c            rule 7's test on c says whether such a set is firm
---     Glanced l w t q           a verdict that is known is right
 --     Tallied l w t x c         c strips are dropped from half tick x (rule 4), for every such set
 --     Told l w t ask r          the answer to what was asked: the worst, a number to tell firm by, or the count from a half tick
 --
@@ -21,10 +22,12 @@ use mathlib.Core.Logic.{_↔_}
 use mathlib.Core.Bool.{true}
 use mathlib.Core.List.{List}
 use Prim.Native.Nat.{ℕ, _+_, _*_, _≤_, _<_, min}
+use lib.IntN.{ℤ}
 use lib.ListN.{length}
 use Rattle.rules.specs.Sums.{Subset, bit}
 use Rattle.rules.specs.Supply.{count}
 use Rattle.rules.specs.Worst.{Worst, Firm, firmTest}
+use Rattle.rules.specs.Least.{Least}
 use Rattle.limits.specs.Limits.{mostSlots, asked, Within}
 use Rattle.limits.specs.declared.Task.{Task}
 use Rattle.runs.specs.Runs.{Laid, Runs}
@@ -33,8 +36,6 @@ use Rattle.late.specs.Late.{lateRoom}
 use Rattle.room.specs.declared.Ask.{Ask}
 use Rattle.room.specs.declared.Ask.the-variants as ask
 use Rattle.room.specs.declared.Peak.{Peak}
-use Rattle.room.specs.declared.Glance.{Glance}
-use Rattle.room.specs.declared.Glance.the-variants as glance
 use Rattle.room.specs.declared.Outline.{Outline}
 use Rattle.room.specs.declared.Outline.the-variants as outline
 
@@ -77,15 +78,17 @@ Outlined l m h k outline.Drawn = Sized m h k × ((c a : ℕ) → Top m h k c a �
 unfoldable pub Highest : List ℕ → ℕ → Task → ℕ → ℕ → Type 0
 Highest l w t c a = (u : Subset) → Laid l w u → Largest (λ i. count 2 u (asked t) (2 * i + 1)) w c a
 
-unfoldable pub Found : List ℕ → ℕ → Task → Peak → Type 0
-Found l w t r = (u : Subset) → Laid l w u → Worst w u (asked t) (r .drops) (r .offset)
+unfoldable pub Foremost : List ℕ → ℕ → Task → ℕ → ℕ → Type 0
+Foremost l w t c o = (u : Subset) → Laid l w u → Worst w u (asked t) c o
+
+unfoldable pub Nearest : List ℕ → ℕ → Task → ℤ → Type 0
+Nearest l w t g = (u : Subset) → Laid l w u → Least w u (asked t) g
+
+abbrev pub Found : List ℕ → ℕ → Task → Peak → Type 0
+Found l w t r = Foremost l w t (r .drops) (r .offset) × Nearest l w t (r .margin)
 
 unfoldable pub Judges : List ℕ → ℕ → Task → ℕ → Type 0
 Judges l w t c = (u : Subset) → Laid l w u → (firmTest (asked t) c ≡ true) ↔ Firm u (asked t)
-
-abbrev pub Glanced : List ℕ → ℕ → Task → Glance → Type 0
-Glanced l w t (glance.Known c) = Judges l w t c
-Glanced l w t glance.Unknown = Unit {0}
 
 unfoldable pub Tallied : List ℕ → ℕ → Task → ℕ → ℕ → Type 0
 Tallied l w t x c = (u : Subset) → Laid l w u → c ≡ count 2 u (asked t) x

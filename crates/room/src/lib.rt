@@ -8,28 +8,31 @@ ghost use Prim.Native.Nat.{_*_, _≤_, _<_};
 ghost use lib.ListN.{length};
 ghost use Rattle.limits.specs.Limits.{mostTicks, Within};
 ghost use Rattle.runs.specs.Runs.{Runs};
-ghost use Rattle.room.specs.Room.{mostEdges, Lends, Found, Judges, Glanced, Tallied, Asked, Told};
+ghost use Rattle.room.specs.Room.{mostEdges, Lends, Found, Judges, Tallied, Asked, Told};
 use limits::Task;
 use limits::Wheel;
 use maps::Crest;
 
-// What is asked of the runs of a wheel and a task: the worst count and offset, a number to tell firm by, or the count from a half tick.
+// What is asked of the runs of a wheel and a task: the worst count and offset with the least margin, a number to tell firm by, or the count from a
+// half tick.
 pub enum Ask {
     Worst,
     Verdict,
     From(usize),
 }
 
-// How many of the k strips are dropped, and from which half tick on; where no offset is asked it is 0.
+// How many of the k strips are dropped, from which half tick on, and the least margin; what isn't asked is 0.
 pub struct Peak {
     pub drops: u32,
     pub offset: u32,
+    pub margin: i32,
 }
 
-// A verdict where the late runs alone tell it.
-enum Glance {
-    Known(u32),
-    Unknown,
+// The largest count half a tick after a tick, the first such tick, and the least margin.
+struct Summit {
+    drops: u32,
+    at: usize,
+    margin: i32,
 }
 
 // What is known of the largest count before any doubling: the count, or that a map of drops is drawn.
@@ -96,7 +99,7 @@ fn told(runs: &[u16], w: usize, task: Task, ask: Ask) -> Peak
     on_most(runs, w, task, ask)
 }
 
-// The worst count and offset (rule 6).
+// The worst count and offset (rule 6), and the least margin.
 pub fn worst(runs: &[u16], w: usize, task: Task) -> Peak
     requires { ⌜ Runs (now runs) w × Within task × (length (now runs) ≤ mostEdges) ⌝ }
     ensures { λ r. ⌜ Found (now (runs .entry)) w task r ⌝ }
@@ -122,14 +125,14 @@ pub fn worst_in(
     ensures { λ r. ⌜ Found (now (runs .entry)) w task r ⌝ }
 {
     let part = &mut map[..w];
-    let c = work::ridge_in(runs, w, task, late, part, low, spare, here, there);
-    work::settle(runs, w, task, c, late, part)
+    let top = work::ridge_in(runs, w, task, late, part, low, spare, here, there);
+    work::settle(runs, w, task, top, late, part)
 }
 
 // Needs no array as long as the wheel.
-fn quick(runs: &[u16], w: usize, task: Task) -> Glance
+fn quick(runs: &[u16], w: usize, task: Task) -> u32
     requires { ⌜ Runs (now runs) w × Within task × (length (now runs) ≤ mostEdges) × (task .m ≡ task .k) ⌝ }
-    ensures { λ r. ⌜ Glanced (now (runs .entry)) w task r ⌝ }
+    ensures { λ r. ⌜ Judges (now (runs .entry)) w task r ⌝ }
 {
     let mut late = [0u16; LATE_EDGES];
     work::quick(runs, w, task, &mut late)
@@ -141,10 +144,7 @@ pub fn verdict(runs: &[u16], w: usize, task: Task) -> u32
     ensures { λ r. ⌜ Judges (now (runs .entry)) w task r ⌝ }
 {
     if task.m == task.k {
-        let q = quick(runs, w, task);
-        if let Glance::Known(drops) = q {
-            return drops;
-        }
+        return quick(runs, w, task);
     }
     let p = told(runs, w, task, Ask::Verdict);
     p.drops

@@ -1,16 +1,15 @@
 // The work, in buffers that the caller lends in any state: a size is only who lends them.
 ghost use mathlib.Core.Path.{_≡_};
-ghost use Prim.Native.Nat.{suc, _+_, _*_, _≤_, _<_, min};
-ghost use lib.Dec.{ltb};
+ghost use Prim.Native.Nat.{_+_, _*_, _≤_, _<_, min};
 ghost use lib.ListN.{length};
 ghost use Rattle.limits.specs.Limits.{mostTicks, mostPeriod, mostStrips, Within};
-ghost use Rattle.runs.specs.Runs.{edge, Runs};
+ghost use Rattle.runs.specs.Runs.{Runs};
 ghost use Rattle.late.specs.Late.{lateRoom};
-ghost use Rattle.room.specs.Room.{Lent, Doubles, Outlined, Highest, Found, Judges, Glanced, Tallied, Asked, Told};
+ghost use Rattle.room.specs.Room.{Lent, Doubles, Outlined, Highest, Foremost, Nearest, Found, Judges, Tallied, Asked, Told};
 use crate::Ask;
-use crate::Glance;
 use crate::Outline;
 use crate::Peak;
+use crate::Summit;
 use crate::doubled;
 use limits::Task;
 use maps::Crest;
@@ -20,7 +19,8 @@ fn count(runs: &[u16], w: usize, task: Task, x: usize, late: &mut [u16], map: &m
     requires { ⌜ Lent (now runs) w task (now late) (now map) × (x < 2 * w) ⌝ }
     ensures { λ r. ⌜ Tallied (now (runs .entry)) w task x r ⌝ }
 {
-    let n = late::late(runs, w, task, x % 2, late);
+    let pass = late::late(runs, w, task, x % 2, late);
+    let n = pass.edges;
     if n == 0 {
         return 0;
     }
@@ -52,16 +52,29 @@ fn outline(late: &[u16], map: &mut [u8], h: usize, k: usize) -> Outline
     Outline::Drawn
 }
 
-// The largest count half a tick after a tick, in the room's own arrays where it takes doubling.
-fn ridge(runs: &[u16], w: usize, task: Task, late: &mut [u16], map: &mut [u8]) -> Crest
+// What the count along late runs and the walk that found them give together.
+fn summit(c: Crest, margin: i32) -> Summit
+    ensures { λ r. ⌜ (r .drops ≡ c .drops) × (r .at ≡ c .at) × (r .margin ≡ margin) ⌝ }
+{
+    Summit {
+        drops: c.drops,
+        at: c.at,
+        margin,
+    }
+}
+
+// The largest count half a tick after a tick, in the room's own arrays where it takes doubling, and the least margin.
+fn ridge(runs: &[u16], w: usize, task: Task, late: &mut [u16], map: &mut [u8]) -> Summit
     requires { ⌜ Lent (now runs) w task (now late) (now map) ⌝ }
     ensures { λ r. ⌜ Highest (now (runs .entry)) w task (r .drops) (r .at) ⌝ }
+    ensures { λ r. ⌜ Nearest (now (runs .entry)) w task (r .margin) ⌝ }
     ensures { λ _. ⌜ Lent (now (runs .entry)) w task (now (late .exit)) (now (map .exit)) ⌝ }
 {
-    let n = late::late(runs, w, task, 1, late);
+    let pass = late::late(runs, w, task, 1, late);
+    let n = pass.edges;
     match outline(&late[..n], map, task.h, task.k) {
-        Outline::Known(c) => c,
-        Outline::Drawn => doubled::doubled(map, task.h, task.k),
+        Outline::Known(c) => summit(c, pass.margin),
+        Outline::Drawn => summit(doubled::doubled(map, task.h, task.k), pass.margin),
     }
 }
 
@@ -76,16 +89,21 @@ pub fn ridge_in(
     spare: &mut [u8],
     here: &mut [u16],
     there: &mut [u16],
-) -> Crest
+) -> Summit
     requires { ⌜ Lent (now runs) w task (now late) (now map) ⌝ }
     requires { ⌜ Doubles w (now low) (now spare) (now here) (now there) ⌝ }
     ensures { λ r. ⌜ Highest (now (runs .entry)) w task (r .drops) (r .at) ⌝ }
+    ensures { λ r. ⌜ Nearest (now (runs .entry)) w task (r .margin) ⌝ }
     ensures { λ _. ⌜ Lent (now (runs .entry)) w task (now (late .exit)) (now (map .exit)) ⌝ }
 {
-    let n = late::late(runs, w, task, 1, late);
+    let pass = late::late(runs, w, task, 1, late);
+    let n = pass.edges;
     match outline(&late[..n], map, task.h, task.k) {
-        Outline::Known(c) => c,
-        Outline::Drawn => doubled::lent(map, low, spare, here, there, task.h, task.k),
+        Outline::Known(c) => summit(c, pass.margin),
+        Outline::Drawn => summit(
+            doubled::lent(map, low, spare, here, there, task.h, task.k),
+            pass.margin,
+        ),
     }
 }
 
@@ -97,41 +115,57 @@ fn after(at: usize) -> u32
     (2 * at + 1) as u32
 }
 
-// From the largest count half a tick after a tick to the worst. Only at half tick 1 is there a half tick before it that may be as bad: 0.
+// The worst offset, from the largest count half a tick after a tick. Only at half tick 1 is there a half tick before it that may be as bad: 0.
+fn offset(
+    runs: &[u16],
+    w: usize,
+    task: Task,
+    drops: u32,
+    at: usize,
+    late: &mut [u16],
+    map: &mut [u8],
+) -> u32
+    requires { ⌜ Lent (now runs) w task (now late) (now map) × Highest (now runs) w task drops at ⌝ }
+    ensures { λ r. ⌜ Foremost (now (runs .entry)) w task drops r ⌝ }
+{
+    if drops == 0 {
+        return 0;
+    }
+    if at != 0 {
+        return after(at);
+    }
+    if count(runs, w, task, 0, late, map) == drops {
+        return 0;
+    }
+    1
+}
+
+// From the largest count half a tick after a tick to the worst.
 pub fn settle(
     runs: &[u16],
     w: usize,
     task: Task,
-    c: Crest,
+    top: Summit,
     late: &mut [u16],
     map: &mut [u8],
 ) -> Peak
-    requires { ⌜ Lent (now runs) w task (now late) (now map) × Highest (now runs) w task (c .drops) (c .at) ⌝ }
+    requires { ⌜ Lent (now runs) w task (now late) (now map) ⌝ }
+    requires { ⌜ Highest (now runs) w task (top .drops) (top .at) × Nearest (now runs) w task (top .margin) ⌝ }
     ensures { λ r. ⌜ Found (now (runs .entry)) w task r ⌝ }
 {
-    let drops = c.drops;
-    let at = c.at;
-    if drops == 0 {
-        return Peak { drops, offset: 0 };
+    Peak {
+        drops: top.drops,
+        offset: offset(runs, w, task, top.drops, top.at, late, map),
+        margin: top.margin,
     }
-    if at != 0 {
-        return Peak {
-            drops,
-            offset: after(at),
-        };
-    }
-    if count(runs, w, task, 0, late, map) == drops {
-        return Peak { drops, offset: 0 };
-    }
-    Peak { drops, offset: 1 }
 }
 
 fn worst(runs: &[u16], w: usize, task: Task, late: &mut [u16], map: &mut [u8]) -> Peak
     requires { ⌜ Lent (now runs) w task (now late) (now map) ⌝ }
     ensures { λ r. ⌜ Found (now (runs .entry)) w task r ⌝ }
 {
-    let c = ridge(runs, w, task, late, map);
-    settle(runs, w, task, c, late, map)
+    let top = ridge(runs, w, task, late, map);
+    settle(runs, w, task, top, late, map)
 }
 
 // The worst count alone: whatever its offset, it tells whether the runs are firm.
@@ -139,30 +173,20 @@ fn verdict(runs: &[u16], w: usize, task: Task, late: &mut [u16], map: &mut [u8])
     requires { ⌜ Lent (now runs) w task (now late) (now map) ⌝ }
     ensures { λ r. ⌜ Judges (now (runs .entry)) w task r ⌝ }
 {
-    let c = ridge(runs, w, task, late, map);
-    c.drops
+    let top = ridge(runs, w, task, late, map);
+    top.drops
 }
 
-// Whether the first late run has a tick.
-fn begins(late: &[u16], w: usize) -> bool
-    ensures { λ r. ⌜ r ≡ ltb (edge (now (late .entry)) w (suc 0)) (edge (now (late .entry)) w (suc 1)) ⌝ }
-{
-    runs::end(late, w, 0) < runs::end(late, w, 1)
-}
-
-// The verdict where every strip must be painted: one late tick is enough to know, so no map is needed.
-pub fn quick(runs: &[u16], w: usize, task: Task, late: &mut [u16]) -> Glance
+// The verdict where every strip must be painted: the least margin tells whether one drops, so no map is needed.
+pub fn quick(runs: &[u16], w: usize, task: Task, late: &mut [u16]) -> u32
     requires { ⌜ Runs (now runs) w × Within task × (min (lateRoom (length (now runs))) w ≤ length (now late)) × (task .m ≡ task .k) ⌝ }
-    ensures { λ r. ⌜ Glanced (now (runs .entry)) w task r ⌝ }
+    ensures { λ r. ⌜ Judges (now (runs .entry)) w task r ⌝ }
 {
-    let n = late::late(runs, w, task, 1, late);
-    if n == 0 {
-        return Glance::Known(0);
+    let pass = late::late(runs, w, task, 1, late);
+    if counts::dropped(pass.margin) {
+        return 1;
     }
-    if begins(&late[..n], w) {
-        return Glance::Known(1);
-    }
-    Glance::Unknown
+    0
 }
 
 // Answers what is asked, on the part of the map that is as long as the wheel.
@@ -176,10 +200,12 @@ pub fn tell(runs: &[u16], w: usize, task: Task, ask: Ask, late: &mut [u16], map:
         Ask::Verdict => Peak {
             drops: verdict(runs, w, task, late, part),
             offset: 0,
+            margin: 0,
         },
         Ask::From(x) => Peak {
             drops: count(runs, w, task, x, late, part),
             offset: 0,
+            margin: 0,
         },
     }
 }

@@ -2,9 +2,9 @@
 --
 -- Each kind of case has a test that computes over the half ticks of the wheel, and a law that turns the passed test into the claim over all
 -- fractions. The checker then runs the tests of the whole list at once.
--- In order: tests one after the other; counts by a table of drops; firm by half ticks; worst by half ticks; a test for each kind; the list. Assumes nothing.
+-- In order: tests one after the other; counts by a table of drops; firm by half ticks; worst by half ticks; the least margin by ticks; a test for each kind; the list. Assumes nothing.
 use mathlib.Core.Path.{_≡_, refl, sym, ap, _∙_}
-use mathlib.Core.Bool.{Bool, true, false, not, _&&_, Bool·beq}
+use mathlib.Core.Bool.{Bool, true, false, not, _&&_, Bool·beq, true≢false}
 use mathlib.Core.List.{List, [], _∷_}
 use Prim.Native.Nat.{ℕ, zero, suc, _+_, _-_, _*_, _%_, _<_}
 use native.Mathlib.Nat.{add-zero, zero-add, mod-lt, not-suc-le-zero, le-of-suc-le-suc}
@@ -12,16 +12,20 @@ use lib.ListN.{getD}
 use native.Mathlib.Omega.{arith}
 use borrow.Author.Tests.{leb-true, ltb-true, eqb-true, le-leb, not-true}
 use lib.Dec.{leb, ltb, eqb}
+use lib.IntN.{ℤ, pos, negsuc, subℕ}
 use Rattle.rules.specs.Sums.{Subset, bit, sum, number, any}
 use Rattle.rules.specs.Supply.{Task, supply, dropped, drops, count}
+use Rattle.rules.specs.Supply as rules
 use Rattle.rules.specs.Usable.{covers, usable, tableOf, grid}
 use Rattle.rules.specs.Worst.{Wheel, Worst, Firm, firmTest}
+use Rattle.rules.specs.Least.{Least}
 use Rattle.rules.specs.Grant.{first, gridTicks}
 use Rattle.rules.specs.Laws.{halfTick}
-use Rattle.rules.specs.Cases.{Case, from, worst, verdict, grant, refusal13, Holds, Each, cases, CasesHold}
+use Rattle.rules.specs.Cases.{Case, from, worst, verdict, margin, grant, refusal13, Holds, Each, cases, CasesHold}
 use Rattle.rules.proofs.Sums.{number-cong, and-left, and-right, all, all-at, all-intro}
 use Rattle.rules.proofs.Step.{step-over-q, dropped-mod}
 use Rattle.rules.proofs.Worst.{worst-of-best, firm-agrees}
+use Rattle.rules.proofs.Least.{lowest, least-lowest}
 use Rattle.rules.proofs.Total.{slots-turn}
 use Rattle.rules.proofs.Grants.{grid-turns, no-choice}
 
@@ -77,10 +81,10 @@ firm? w d t = all (λ x. leb (counted w d t x) (t .k - t .m)) (2 * w)
 
 firm-yes : (w : ℕ) (u : Subset) → Wheel w u → (t : Task) → firm? w (table w u t) t ≡ true → Firm u t
 unfolding firm? Firm
-firm-yes w u wheel t e q p pos =
+firm-yes w u wheel t e q p q+ =
     let x : ℕ = halfTick q p % (2 * w) in
     let inside : x < 2 * w = mod-lt (halfTick q p) (omega (arith, wheel .some)) in
-    rw (step-over-q w u wheel t q p pos, ← counted-right w u wheel t x) (leb-true _ _ (all-at _ (2 * w) x e inside))
+    rw (step-over-q w u wheel t q p q+, ← counted-right w u wheel t x) (leb-true _ _ (all-at _ (2 * w) x e inside))
 
 firm-no : (w : ℕ) (u : Subset) → Wheel w u → (t : Task) → firm? w (table w u t) t ≡ false → Firm u t → ⊥
 unfolding firm? Firm
@@ -113,6 +117,28 @@ worst-yes w u wheel t c o e =
       least = λ i l. rw (← f i) (ltb-true _ _ (all-at _ o i (right _ _ (left _ _ (left _ _ e))) l));
     })
 
+-- ---- the least margin by ticks
+
+same : ℤ → ℤ → Bool
+same (pos a) (pos b) = eqb a b
+same (pos a) (negsuc b) = false
+same (negsuc a) (pos b) = false
+same (negsuc a) (negsuc b) = eqb a b
+
+same-right : (a b : ℤ) → same a b ≡ true → a ≡ b
+unfolding same
+same-right (pos a) (pos b) e = ap pos (eqb-true a b e)
+same-right (pos a) (negsuc b) e = absurd (true≢false (sym e))
+same-right (negsuc a) (pos b) e = absurd (true≢false (sym e))
+same-right (negsuc a) (negsuc b) e = ap negsuc (eqb-true a b e)
+
+least? : ℕ → Subset → Task → ℤ → Bool
+least? w u t l = same (subℕ (lowest (supply 1 u (t .D)) w) (t .e)) l
+
+least-yes : (w : ℕ) (u : Subset) → Wheel w u → (t : Task) (l : ℤ) → least? w u t l ≡ true → Least w u t l
+unfolding least?
+least-yes w u wheel t l e = rw (← same-right _ _ e) (least-lowest w u wheel t)
+
 -- ---- a test for each kind
 
 grid? : ℕ → ℕ → Subset → Task → Bool
@@ -122,6 +148,7 @@ passes : Case → Bool
 passes (from w s t o c) = eqb (count 2 (usable w (tableOf s)) t o) c
 passes (worst w s t c o) = ltb 0 w and worst? w (table w (usable w (tableOf s)) t) t c o
 passes (verdict w s t c o b) = ltb 0 w and worst? w (table w (usable w (tableOf s)) t) t c o and Bool·beq b (firmTest t c)
+passes (margin w s t l) = ltb 0 w and least? w (usable w (tableOf s)) t l
 passes (grant N v free t j) =
     ltb 0 (N * v)
     and leb j (number free N)
@@ -147,6 +174,8 @@ sound (verdict w s t c o b) e =
     let agree = firm-agrees w _ t c o is in
     let said : b ≡ firmTest t c = same-bit _ _ (right _ _ e) in
     (is, (λ p. agree .0 (sym said ∙ p), λ f. said ∙ agree .1 f))
+sound (margin w s t l) e =
+    least-yes w _ (slots-turn w (tableOf s) (ltb-true 0 w (left _ _ e))) t l (right _ _ e)
 sound (grant N v free t j) e =
     let w+ : 0 < N * v = ltb-true 0 (N * v) (left _ _ (left _ _ (left _ _ e))) in
     record {
@@ -173,5 +202,5 @@ each [] e = tt
 each (c ∷ cs) e = (sound c (left _ _ e), each cs (right _ _ e))
 
 pub cases-hold : CasesHold
-unfolding _and_ every passes grid? firm? worst? counted table tab count drops dropped supply number sum bit any usable covers tableOf grid gridTicks first firmTest
+unfolding _and_ every passes grid? firm? worst? least? same lowest counted table tab count drops dropped rules.margin supply number sum bit any usable covers tableOf grid gridTicks first firmTest
 cases-hold = each cases refl

@@ -13,6 +13,7 @@ use Rattle.rules.specs.Supply.{Task, supply, dropped, drops, count}
 use Rattle.rules.specs.Worst.{Firm}
 use Rattle.rules.specs.Laws.{NoHarder, MoreNeverHurts}
 use Rattle.rules.proofs.Sums.{number-mono, number-longer}
+use Rattle.rules.proofs.Step.{dropped-ltb}
 
 pub supply-mono :
     (u v : Subset) → ((x : ℕ) → u x ≡ true → v x ≡ true) → (q D E p : ℕ) → D ≤ E → supply q u D p ≤ supply q v E p
@@ -22,12 +23,12 @@ supply-mono u v kept q D E p l =
 
 pub dropped-mono :
     (u v : Subset) (s t : Task) → NoHarder u v s t → (q p : ℕ) → dropped q v t p ≡ true → dropped q u s p ≡ true
-unfolding dropped
 dropped-mono u v s t easier q p d =
     let more : supply q u (s .D) p ≤ supply q v (t .D) p =
     supply-mono u v (easier .kept) q (s .D) (t .D) p (easier .longer) in
     let need : q * t .e ≤ q * s .e = mul-le-mul-left q (easier .shorter) in
-    lt-ltb (supply q u (s .D) p) (q * s .e) (omega (arith, ltb-true (supply q v (t .D) p) (q * t .e) d))
+    dropped-ltb q u s p
+    ∙ lt-ltb (supply q u (s .D) p) (q * s .e) (omega (arith, ltb-true (supply q v (t .D) p) (q * t .e) (sym (dropped-ltb q v t p) ∙ d)))
 
 drops-mono :
     (u v : Subset) (s t : Task) → NoHarder u v s t → (q n p : ℕ) → drops q v t n p ≤ drops q u s n p

@@ -14,10 +14,11 @@ use native.Mathlib.Omega.{arith}
 use lib.Dec.{ltb}
 use borrow.Author.Tests.{ltb-true, ltb-false, lt-ltb, le-ltb}
 use Rattle.rules.specs.Sums.{Subset, bit, number}
-use Rattle.rules.specs.Supply.{Task, supply, dropped, drops, count}
+use Rattle.rules.specs.Supply.{Task, supply, margin, dropped, drops, count}
 use Rattle.rules.specs.Worst.{Wheel}
 use Rattle.rules.specs.Laws.{halfTick, StepOverQ, CountsAdd}
 use Rattle.rules.proofs.Sums.{number-cong, number-split}
+use Rattle.rules.proofs.Signed.{below-zero}
 use Rattle.rules.proofs.Straight.{straight, supply-tick, supply-up, supply-down}
 
 -- ---- tests
@@ -32,6 +33,11 @@ ltb-same a b c d f g = go (ltb c d) refl
         le-ltb a b (omega arith)
 
 -- ---- drops between ticks and at a tick
+
+-- Below zero is where the supply is less than the need.
+pub dropped-ltb : (q : ℕ) (u : Subset) (t : Task) (p : ℕ) → dropped q u t p ≡ ltb (supply q u (t .D) p) (q * t .e)
+unfolding dropped margin
+dropped-ltb q u t p = below-zero (supply q u (t .D) p) (q * t .e)
 
 -- A line between A at a tick and B at the next, s parts of the one and r of the other, against the need e.
 below-line : (s r A B e : ℕ) → 0 < s → 0 < r → A ≤ B + 1 → B ≤ A + 1 → ltb (s * A + r * B) ((s + r) * e) ≡ (ltb A e || ltb B e)
@@ -57,16 +63,14 @@ below-line s r A B e s+ r+ down up = go (ltb A e) (ltb B e) refl refl
 pub dropped-between :
     (u : Subset) (t : Task) (a s r : ℕ) → 0 < s → 0 < r
     → dropped (s + r) u t ((s + r) * a + r) ≡ (dropped 1 u t a || dropped 1 u t (a + 1))
-unfolding dropped
 dropped-between u t a s r s+ r+ =
-    rw (straight u (t .D) a s r s+, one-mul)
+    rw (dropped-ltb, dropped-ltb, dropped-ltb, straight u (t .D) a s r s+, one-mul)
     (below-line s r _ _ (t .e) s+ r+ (supply-down u (t .D) a) (supply-up u (t .D) a))
 
 -- A strip at tick a.
 pub dropped-tick : (q : ℕ) (u : Subset) (t : Task) (a : ℕ) → 0 < q → dropped q u t (q * a) ≡ dropped 1 u t a
-unfolding dropped
 dropped-tick q u t a pos =
-    rw (supply-tick q u (t .D) a pos, one-mul)
+    rw (dropped-ltb, dropped-ltb, supply-tick q u (t .D) a pos, one-mul)
     (ltb-same _ _ _ _ (lt-of-mul-lt-mul-left q) (λ l. mul-lt-mul-of-pos-left l pos))
 
 pub dropped-even : (u : Subset) (t : Task) (a : ℕ) → dropped 2 u t (2 * a) ≡ dropped 1 u t a
@@ -129,8 +133,8 @@ supply-turns w u wheel q D n p pos =
     ap (λ x. u (x / q)) e ∙ ap u (add-mul-div-left (p + i) (n * w) pos) ∙ turns-many w u wheel n ((p + i) / q))
 
 pub dropped-turns : (w : ℕ) (u : Subset) → Wheel w u → (q : ℕ) (t : Task) (n p : ℕ) → 0 < q → dropped q u t (p + q * (n * w)) ≡ dropped q u t p
-unfolding dropped
-dropped-turns w u wheel q t n p pos = ap (λ x. ltb x (q * t .e)) (supply-turns w u wheel q (t .D) n p pos)
+dropped-turns w u wheel q t n p pos =
+    rw (dropped-ltb, dropped-ltb) (ap (λ x. ltb x (q * t .e)) (supply-turns w u wheel q (t .D) n p pos))
 
 pub drops-turns : (w : ℕ) (u : Subset) → Wheel w u → (q : ℕ) (t : Task) (k n p : ℕ) → 0 < q → drops q u t k (p + q * (n * w)) ≡ drops q u t k p
 unfolding drops
@@ -144,6 +148,11 @@ parts-of : (q w p : ℕ) → p ≡ p % (q * w) + q * (p / (q * w) * w)
 parts-of q w p =
     let c : q * w * (p / (q * w)) ≡ q * (p / (q * w) * w) = rw (mul-assoc, mul-comm w (p / (q * w))) in
     omega (arith, div-add-mod p (q * w))
+
+pub supply-mod : (w : ℕ) (u : Subset) → Wheel w u → (D a : ℕ) → supply 1 u D (a % w) ≡ supply 1 u D a
+supply-mod w u wheel D a =
+    let e : a ≡ a % w + 1 * (a / w * w) = omega (arith, div-add-mod a w, mul-comm w (a / w)) in
+    sym (ap (supply 1 u D) e ∙ supply-turns w u wheel 1 D (a / w) (a % w) (omega arith))
 
 pub dropped-mod : (w : ℕ) (u : Subset) → Wheel w u → (q : ℕ) (t : Task) (p : ℕ) → 0 < q → dropped q u t p ≡ dropped q u t (p % (q * w))
 dropped-mod w u wheel q t p pos =

@@ -1,6 +1,6 @@
 -- docs/RULES.md, "Cases by hand": P1 to P14 as one list under one statement. Definitions only.
 --
---     Case           a case by hand, of one of five kinds
+--     Case           a case by hand, of one of six kinds
 --     Holds          what a case claims, by the rules
 --     Each P l       P holds of every entry of l
 --     cases          P1 to P14, in the paper's order
@@ -11,10 +11,12 @@ use mathlib.Core.Bool.{Bool, true, false, not}
 use mathlib.Core.List.{List, [], _∷_}
 use Prim.Native.Nat.{ℕ}
 use lib.Dec.{eqb}
+use lib.IntN.{ℤ, pos, negsuc}
 use Rattle.rules.specs.Sums.{Subset}
 use Rattle.rules.specs.Supply.{Task, count}
 use Rattle.rules.specs.Usable.{Slot, usable, tableOf}
 use Rattle.rules.specs.Worst.{Worst, Firm}
+use Rattle.rules.specs.Least.{Least}
 use Rattle.rules.specs.Grant.{Granted, NoChoice}
 
 -- The wheel w and its slots, or the slots N, v and the free ones; the task; then what is claimed.
@@ -22,6 +24,7 @@ pub data Case : Type 0 where
   from : (w : ℕ) → List Slot → Task → (half-tick drops : ℕ) → Case
   worst : (w : ℕ) → List Slot → Task → (drops half-tick : ℕ) → Case
   verdict : (w : ℕ) → List Slot → Task → (drops half-tick : ℕ) → (firm : Bool) → Case
+  margin : (w : ℕ) → List Slot → Task → (least : ℤ) → Case
   grant : (N v : ℕ) → (free : Subset) → Task → (j : ℕ) → Case
   refusal13 : (N v : ℕ) → (free : Subset) → Task → Case
 
@@ -30,6 +33,7 @@ Holds (from w s t o c) = count 2 (usable w (tableOf s)) t o ≡ c
 Holds (worst w s t c o) = Worst w (usable w (tableOf s)) t c o
 Holds (verdict w s t c o b) =
     Worst w (usable w (tableOf s)) t c o × ((b ≡ true) ↔ Firm (usable w (tableOf s)) t)
+Holds (margin w s t l) = Least w (usable w (tableOf s)) t l
 Holds (grant N v free t j) = Granted N v free t j
 Holds (refusal13 N v free t) = NoChoice N v free t
 
@@ -57,12 +61,17 @@ cases =
     ∷ from 10 short (T 4 1) 10 1
     ∷ from 10 short (T 4 1) 19 0
     ∷ verdict 10 short (T 4 1) 2 9 false
+    ∷ margin 10 short (T 4 1) (negsuc 0)
     ∷ verdict 10 short (T 4 0) 2 9 true
     ∷ worst 10 short (T 3 1) 0 0
+    ∷ margin 10 short (T 3 1) (pos 0)
     ∷ worst 10 short (T 6 1) 2 0
+    ∷ margin 10 short (T 6 1) (negsuc 2)
     ∷ verdict 10 (slot 0 4 ∷ slot 4 8 ∷ []) (T 4 1) 2 9 false
     ∷ worst 10 [] (task 1 5 5 1 3) 3 0
+    ∷ margin 10 [] (task 1 5 5 1 3) (negsuc 0)
     ∷ worst 55 (slot 11 21 ∷ slot 33 43 ∷ []) (task 27 70 70 3 10) 7 39
+    ∷ margin 55 (slot 11 21 ∷ slot 33 43 ∷ []) (task 27 70 70 3 10) (negsuc 6)
     ∷ grant 5 2 (λ _. true) (T 4 1) 5
     ∷ grant 5 2 (λ _. true) (T 3 1) 4
     ∷ refusal13 5 2 (λ i. not (eqb i 4)) (T 4 1)

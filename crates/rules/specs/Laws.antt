@@ -4,6 +4,11 @@
 --     StepOverQ         the count from p/q is the count from a half tick of the wheel (rule 5, demand 3)
 --     WorstExists       every wheel and task have a worst count and offset (rule 6)
 --     WorstUnique       and only one of each
+--     LeastExists       every wheel and task have a least margin
+--     LeastUnique       and only one
+--     LeastTells        it is at least 0 exactly when no strip drops anywhere
+--     NeedLowers        n more ticks of need lower it by n
+--     MayGrow           with a least margin of g, at least 0, g more ticks of need drop nothing, and one tick more drops a strip
 --     FirmAgrees        rule 7's test says firm exactly when no fraction drops more than k − m
 --     WorstPlace        rule 8: the worst offset is 0 or half a tick after (a − n × h) modulo w
 --     NoZones           rule 8: where no zone starts all strips drop or none does, and the worst offset is 0
@@ -21,10 +26,13 @@ use mathlib.Core.Logic.{_⊎_, _↔_}
 use mathlib.Core.Bool.{true, false}
 use Prim.Native.Nat.{ℕ, _+_, _*_, _/_, _%_, _≤_, _<_}
 use lib.Dec.{ltb}
+use lib.IntN.{ℤ, pos, _-ℤ_}
+use lib.Signed.{_≤ℤ_}
 use Rattle.rules.specs.Sums.{Subset, bit, number}
 use Rattle.rules.specs.Supply.{Task, supply, dropped, drops, count}
 use Rattle.rules.specs.Usable.{Table, usable}
 use Rattle.rules.specs.Worst.{Wheel, Worst, Firm, firmTest}
+use Rattle.rules.specs.Least.{Least, grown, Painted}
 use Rattle.rules.specs.Zone.{ZoneStart, Candidate}
 use Rattle.rules.specs.Grant.{Granted, NoChoice}
 
@@ -49,6 +57,23 @@ WorstExists = (w : ℕ) (u : Subset) → Wheel w u → (t : Task) → (c : ℕ) 
 abbrev pub WorstUnique : Type 0
 WorstUnique =
     (w : ℕ) (u : Subset) (t : Task) (c o c′ o′ : ℕ) → Worst w u t c o → Worst w u t c′ o′ → (c ≡ c′) × (o ≡ o′)
+
+abbrev pub LeastExists : Type 0
+LeastExists = (w : ℕ) (u : Subset) → Wheel w u → (t : Task) → (l : ℤ) × Least w u t l
+
+abbrev pub LeastUnique : Type 0
+LeastUnique = (w : ℕ) (u : Subset) (t : Task) (l l′ : ℤ) → Least w u t l → Least w u t l′ → l ≡ l′
+
+abbrev pub LeastTells : Type 0
+LeastTells = (w : ℕ) (u : Subset) (t : Task) (l : ℤ) → Least w u t l → (pos 0 ≤ℤ l) ↔ Painted u t
+
+abbrev pub NeedLowers : Type 0
+NeedLowers = (w : ℕ) (u : Subset) (t : Task) (l : ℤ) → Least w u t l → (n : ℕ) → Least w u (grown n t) (l -ℤ pos n)
+
+abbrev pub MayGrow : Type 0
+MayGrow =
+    (w : ℕ) (u : Subset) (t : Task) (g : ℕ) → Least w u t (pos g)
+    → Painted u (grown g t) × ((p : ℕ) × (p < w) × (dropped 1 u (grown (g + 1) t) p ≡ true))
 
 abbrev pub FirmAgrees : Type 0
 FirmAgrees = (w : ℕ) (u : Subset) (t : Task) (c o : ℕ) → Worst w u t c o → (firmTest t c ≡ true) ↔ Firm u t

@@ -3,6 +3,7 @@ pub mod Sums
 pub mod Supply
 pub mod Usable
 pub mod Worst
+pub mod Least
 pub mod Zone
 pub mod Grant
 pub mod Laws

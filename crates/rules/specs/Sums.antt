@@ -1,12 +1,14 @@
--- Sums and tests over the numbers below n. Definitions only.
+-- Sums, tests and lowest values over the first numbers. Definitions only.
 --
 --     bit b         1 for true, 0 for false
 --     sum f n       f 0 + f 1 + .. + f (n − 1); 0 for n = 0
 --     number f n    how many i below n have f i
 --     any f n       some i below n has f i; false for n = 0
+--     Lowest f n s  s is the lowest of f 0 to f n
 --     Subset        a set of numbers, by its test
+use mathlib.Core.Path.{_≡_}
 use mathlib.Core.Bool.{Bool, true, false, _||_}
-use Prim.Native.Nat.{ℕ, zero, suc, _+_}
+use Prim.Native.Nat.{ℕ, zero, suc, _+_, _≤_}
 
 abbrev pub Subset : Type 0
 Subset = ℕ → Bool
@@ -25,3 +27,9 @@ number f n = sum (λ i. bit (f i)) n
 unfoldable pub any : Subset → ℕ → Bool
 any f zero = false
 any f (suc n) = any f n || f n
+
+pub record Lowest (f : ℕ → ℕ) (n s : ℕ) : Type 0 where
+  pub bound : (x : ℕ) → x ≤ n → s ≤ f x
+  pub place : ℕ
+  pub inside : place ≤ n
+  pub hit : f place ≡ s

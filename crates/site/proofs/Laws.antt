@@ -5,6 +5,7 @@ use mathlib.Core.List.{List, _++_}
 use Prim.Native.Nat.{ℕ, _*_, _%_, _≤_, _<_}
 use native.Mathlib.Decide.{ℕ-discrete}
 use native.Mathlib.Omega.{arith}
+use lib.IntN.{ℤ, pos}
 use lib.ListN.{length, drop, length-append, length-drop, take-append-drop}
 use borrow.Author.Tests.{le-ltb}
 use Rattle.rules.specs.Sums.{bit}
@@ -41,12 +42,14 @@ answer-long task slots reply after n sized slotted long judged = go (ℕ-discret
         ∙ sym (at-next _ _ _ (sym (sizes-good task slots sized slotted))
         (at-next _ _ _ (when-false 2 _ (le-ltb (length reply) replyBytes (omega arith))) refl))
 
-    filled : (id f c o : ℕ) → after ≡ over (answerBytes id n f c o) reply → length after ≡ replyBytes
-    filled id f c o bytes = ap length bytes ∙ over-long (answerBytes id n f c o) reply (omega arith) ∙ long
+    filled : (id f c o : ℕ) (g : ℤ) → after ≡ over (answerBytes id n f c o g) reply → length after ≡ replyBytes
+    filled id f c o g bytes = ap length bytes ∙ over-long (answerBytes id n f c o g) reply (omega arith) ∙ long
 
     go : Dec (n ≡ 0) → length after ≡ replyBytes
-    go (yes none) = let a = judged .answered none in filled (taskRecord task .id) (bit (a .firm)) (a .drops) (a .offset) (rw none (a .bytes))
-    go (no bad) = filled (taskRecord task .id) 0 0 0 (judged .refused (body-high (taskRecord task) slots n body bad))
+    go (yes none) =
+        let a = judged .answered none in
+        filled (taskRecord task .id) (bit (a .firm)) (a .drops) (a .offset) (a .margin) (rw none (a .bytes))
+    go (no bad) = filled (taskRecord task .id) 0 0 0 (pos 0) (judged .refused (body-high (taskRecord task) slots n body bad))
 
 -- ---- answer by answer, or all in a row
 

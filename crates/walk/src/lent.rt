@@ -4,6 +4,7 @@ ghost use Prim.Native.Nat.{_≤_};
 ghost use lib.ListN.{length};
 ghost use Rattle.limits.specs.Limits.{asked, mostTicks};
 ghost use Rattle.rules.specs.Worst.{Worst};
+ghost use Rattle.rules.specs.Least.{Least};
 ghost use Rattle.records.specs.Records.{replyBytes, taskRecord};
 ghost use Rattle.records.specs.Refusals.{sizes};
 ghost use Rattle.records.specs.Jobs.{Good, jobTicks};
@@ -13,7 +14,7 @@ use records::Checked;
 use records::Job;
 use room::Peak;
 
-// The worst count and offset of an accepted job.
+// The worst count and offset of an accepted job, and its least margin.
 fn worst_in(
     slots: &[u8],
     job: Job,
@@ -28,6 +29,7 @@ fn worst_in(
     requires { ⌜ Good (now slots) job × (length (now runs) ≡ mostEdges) ⌝ }
     requires { ⌜ Lends (job .wheel .w) (now late) (now map) (now low) (now spare) (now here) (now there) ⌝ }
     ensures { λ r. ⌜ Worst (job .wheel .w) (jobTicks (now (slots .entry)) job) (asked (job .task)) (r .drops) (r .offset) ⌝ }
+    ensures { λ r. ⌜ Least (job .wheel .w) (jobTicks (now (slots .entry)) job) (asked (job .task)) (r .margin) ⌝ }
 {
     let wheel = job.wheel;
     let n = judge::jobs::lay(slots, job, runs);

@@ -45,7 +45,7 @@ returns-4 c =
     let check = arm .before .before in
     let read = check .before in
     let good = sym (read .before .before .before .sizes .ensures) ∙ read .before .before .if1 .left in
-    reply-answered _ _ _ good (read .before .if2 .left) _ (read .read .ensures) _ (sym (check .check .ensures) ∙ arm .job .given .1) _ _ _
+    reply-answered _ _ _ good (read .before .if2 .left) _ (read .read .ensures) _ (sym (check .check .ensures) ∙ arm .job .given .1) _ _ _ _
     (found .worst .ensures) (c .before .before .answer .ensures)
 
 pub judge-spec : {M : Type 1} → statement M

@@ -24,5 +24,5 @@ returns-2 c =
 pub supply-spec : {M : Type 1} → statement M
 supply-spec =
     tie.close
-    (tie.spec (λ c κs. search needs) (λ c. search needs) (λ c. search needs) (λ c. search needs) supply-requires returns
-    returns-2)
+    (tie.spec (λ c κs. search needs) (λ c. search needs) (λ c. search needs) (λ c. search needs) supply-requires (λ c. search needs)
+    returns returns-2)

@@ -15,11 +15,11 @@ use Rattle.late.proofs.sweep.Statement.{statement}
 use Rattle.late.proofs.sweep.Tie as tie
 
 abbrev Inv-loop : tie.InvT-loop
-Inv-loop runs w far stop rest need side out₀ a₀ b₀ i₀ j₀ s₀ n₀ out a b i j s n =
-    Sweeping (way runs w far stop rest need side) (come a₀ b₀ i₀ j₀ s₀ n₀) out₀ (come a b i j s n) out
+Inv-loop runs w far stop rest need side out₀ a₀ b₀ i₀ j₀ s₀ low₀ n₀ out a b i j s low n =
+    Sweeping (way runs w far stop rest need side) (come a₀ b₀ i₀ j₀ s₀ low₀ n₀) out₀ (come a b i j s low n) out
 
 abbrev μ-loop : tie.MeasureT-loop
-μ-loop runs w far stop rest need side out₀ a₀ b₀ i₀ j₀ s₀ n₀ out a b i j s n = length runs + 1 - i + (length far + 1 - j)
+μ-loop runs w far stop rest need side out₀ a₀ b₀ i₀ j₀ s₀ low₀ n₀ out a b i j s low n = length runs + 1 - i + (length far + 1 - j)
 
 loop-holds : tie.Need-loop-holds Inv-loop μ-loop
 loop-holds c =
@@ -29,7 +29,7 @@ loop-holds c =
 -- ---- a stretch
 
 abbrev now : (c : tie.At-loop Inv-loop μ-loop) → Walk
-now c = come (c .loop .a) (c .loop .b) (c .loop .i) (c .loop .j) (c .loop .s) (c .loop .n)
+now c = come (c .loop .a) (c .loop .b) (c .loop .i) (c .loop .j) (c .loop .s) (c .loop .low) (c .loop .n)
 
 abbrev start : (c : tie.At-loop Inv-loop μ-loop) → tie.Start Inv-loop μ-loop
 start c = c .before .before .before .before
@@ -56,28 +56,30 @@ theirs : (c : tie.In-loop Inv-loop μ-loop) → c .before .loop .j ≤ length (s
 theirs c = sweeping-theirs (c .before .loop .inv) (start (c .before) .pre) (c .loop-test .taken)
 
 abbrev turned : (c : tie.Joined1 Inv-loop μ-loop) → tie.In-loop Inv-loop μ-loop
-turned c = c .before .before .before .before .before .before .before .before .before
+turned c = c .before .before .before .before .before .before .before .before .before .before
 
 -- From the head of the loop to its end, where the far cursor has come to run j.
 step :
     (c : tie.Joined1 Inv-loop μ-loop) (j : ℕ)
-    → let least = c .before .before .before .before .before .before in
+    → let least = c .before .before .before .before .before .before .before in
     let at = least .before .before .before .before in
     let m = least .least .result in
     Passed (at .loop .j) (at .loop .b + m) (least .before .end2 .result) j
     → Step (along at) (least .before .before .end .result) (least .before .end2 .result) m (now at) (at .loop .out)
-    (come (at .loop .a + m) (at .loop .b + m) (c .if1 .i) j (c .before .slid .result) (c .before .before .before .before .stretch .result))
-    (c .before .before .before .before .stretch .last .0)
+    (come (at .loop .a + m) (at .loop .b + m) (c .if1 .i) j (c .before .before .slid .result) (c .before .least2 .result)
+    (c .before .before .before .before .before .stretch .result))
+    (c .before .before .before .before .before .stretch .last .0)
 step c j passed =
-    let least = c .before .before .before .before .before .before in
+    let least = c .before .before .before .before .before .before .before in
     record {
       near = least .before .before .end .ensures;
       far = least .before .end2 .ensures;
       first = least .least .ensures;
       on = refl;
       over = refl;
-      drawn = c .before .before .before .before .stretch .ensures;
-      slides = c .before .slid .ensures;
+      drawn = c .before .before .before .before .before .stretch .ensures;
+      slides = c .before .before .slid .ensures;
+      lower = c .before .least2 .ensures;
       ours = ⊎-elim (λ h. inl (h .0 .taken, h .1)) (λ h. inr (h .0 .left, h .1)) (c .if1 .came);
       theirs = passed;
     }
@@ -103,16 +105,16 @@ slid-requires c κs =
     (r .slope, omega (arith, r .on, pre .bounds .most))
 
 add-a : tie.Need-add-a Inv-loop μ-loop
-add-a c = omega (arith, ready (c .before .before .before .before .before) .on)
+add-a c = omega (arith, ready (c .before .before .before .before .before .before) .on)
 
 add-b : tie.Need-add-b Inv-loop μ-loop
-add-b c = omega (arith, ready (c .before .before .before .before .before) .over)
+add-b c = omega (arith, ready (c .before .before .before .before .before .before) .over)
 
 add-i : tie.Need-add-i Inv-loop μ-loop
-add-i c = omega (arith, ours (c .before .before .before .before .before .before .before .before .before))
+add-i c = omega (arith, ours (c .before .before .before .before .before .before .before .before .before .before))
 
 add-j : tie.Need-add-j Inv-loop μ-loop
-add-j c = omega (arith, theirs (c .before .before .before .before .before .before .before .before .before .before))
+add-j c = omega (arith, theirs (c .before .before .before .before .before .before .before .before .before .before .before))
 
 loop-less : tie.Need-loop-less Inv-loop μ-loop
 loop-less c =
@@ -144,5 +146,5 @@ pub sweep-spec : {M : Type 1} → statement M
 sweep-spec =
     tie.close
     (tie.spec Inv-loop μ-loop loop-holds (λ c κs. search needs) (λ c κs. search needs) sub-least sub-least-2
-    (λ c κs. search needs) stretch-requires slid-requires add-a add-b add-i add-j loop-less loop-again loop-less-2 loop-again-2
+    (λ c κs. search needs) stretch-requires slid-requires (λ c κs. search needs) add-a add-b add-i add-j loop-less loop-again loop-less-2 loop-again-2
     same-length returns)

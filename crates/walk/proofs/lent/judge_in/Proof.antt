@@ -49,7 +49,7 @@ returns-2 c =
     let check = arm .before .before in
     let read = check .before in
     let given = start read .pre .0 in
-    reply-answered _ _ _ (given .0) (given .1) _ (read .read .ensures) _ (sym (check .check .ensures) ∙ arm .job .given .1) _ _ _
+    reply-answered _ _ _ (given .0) (given .1) _ (read .read .ensures) _ (sym (check .check .ensures) ∙ arm .job .given .1) _ _ _ _
     (found .worst-in .ensures) (c .before .before .answer .ensures)
 
 pub judge-in-spec : {M : Type 1} → statement M

@@ -1,10 +1,10 @@
--- `room::work::settle` meets its contract: one law for each way out (proofs/Ridges.antt). Assumes nothing.
+-- `room::work::offset` meets its contract: one law for each way out (proofs/Ridges.antt). Assumes nothing.
 use native.Mathlib.Omega.{arith}
 use Rattle.room.proofs.Ridges.{highest-inside, found-none, found-later, found-start, found-half}
 use Rattle.runs.proofs.Edges.{runs-some}
 use borrow.Author.Needs.{needs}
-use Rattle.room.proofs.work.settle.Statement.{statement}
-use Rattle.room.proofs.work.settle.Tie as tie
+use Rattle.room.proofs.work.offset.Statement.{statement}
+use Rattle.room.proofs.work.offset.Tie as tie
 
 returns : tie.Need-returns
 returns c =
@@ -36,8 +36,8 @@ returns-4 c =
     let first = counted .before .before .before in
     found-half _ _ _ _ _ _ (first .before .before .before .before .before .pre .1) (first .if2 .left) (counted .count .ensures) (c .if3 .left)
 
-pub settle-spec : {M : Type 1} → statement M
-settle-spec =
+pub offset-spec : {M : Type 1} → statement M
+offset-spec =
     tie.close
     (tie.spec returns after-requires returns-2 count-requires (λ c. search needs) (λ c. search needs) returns-3
     (λ c. search needs) (λ c. search needs) returns-4)
