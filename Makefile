@@ -37,11 +37,12 @@ $(start)
 endef
 
 # Baselines are measured at their best: clang -O3 where there is a clang. BENCH_ARCHIVE=file measures an archive that was made for this machine.
-# BENCH_BEFORE=file judges and counts with an older archive as well, in the same run; BENCH_BEFORE_MADE tells how that one was made.
+# BENCH_BEFORE=file measures an older archive as well, in the same run; BENCH_BEFORE_MADE tells how that one was made.
 BENCH_ARCHIVE ?= $(ARCHIVE)
 BENCH_MADE ?= as it was built
 BENCH_BEFORE ?=
 BENCH_BEFORE_MADE ?= as it was built
+BENCH_BEFORE_CALLS := judge site count grant
 BENCH_EMULATED := $(if $(EMULATOR),$(if $(filter $(ARCHIVE),$(BENCH_ARCHIVE)),-emulated))
 BENCH_KIND := $(BENCH_EMULATED)$(if $(BENCH_BEFORE),-before)
 BENCH_CC := $(if $(BENCH_EMULATED),$(CC),$(shell command -v clang >/dev/null 2>&1 && echo clang || echo cc))
@@ -91,7 +92,7 @@ build/include/fiddlequill.h: $(HEADER)
 
 build/fiddlequill.pc: Makefile
 	@mkdir -p build
-	printf 'prefix=%s\nlibdir=$${prefix}/lib\nincludedir=$${prefix}/include\n\nName: fiddlequill\nDescription: proved judge for lobby displays\nVersion: 3.0.0\nLibs: -L$${libdir} -lfiddlequill\nCflags: -I$${includedir}\n' '$(PREFIX)' >$@
+	printf 'prefix=%s\nlibdir=$${prefix}/lib\nincludedir=$${prefix}/include\n\nName: fiddlequill\nDescription: proved judge for lobby displays\nVersion: 4.0.0\nLibs: -L$${libdir} -lfiddlequill\nCflags: -I$${includedir}\n' '$(PREFIX)' >$@
 
 install: lib
 	@rm -f build/fiddlequill.pc
@@ -123,13 +124,22 @@ host: $(PROGRAMS) header-check
 header-check: $(HEADER)
 	$(CXX) -Wall -Wextra -Wpedantic -Werror -I$(INCLUDE) -fsyntax-only host/header.cpp
 
+# An example's tables made into records beside the programs, and what the desk says of them compared with what it must say:
+# $(call example,its name,the programs' folder).
+define example
+rm -rf $(2)/$(1) && cp -R examples/$(1) $(2)/$(1)
+$(2)/records make $(2)/$(1)
+$(2)/desk $(2)/$(1) >$(2)/$(1)/desk.out
+diff examples/$(1)/desk.expected $(2)/$(1)/desk.out
+endef
+
 host-test: host build/sheet build/questions
 	host/records-test.sh build/records
-	rm -rf build/site && cp -R examples/site build/site
-	build/records make build/site
+	$(call example,site,build)
+	$(call example,board,build)
 	host/sheet-test.sh build/sheet build/records build/halfway build/site
-	build/desk build/site >build/site/desk.out
-	diff examples/site/desk.expected build/site/desk.out
+	host/sheet.sh build/sheet build/records examples/board build/board-sheet >build/board/sheet.out
+	diff examples/board/sheet.expected build/board/sheet.out
 	examples/desk-test.sh build/desk build/records build/site
 	build/stack
 	rm -rf build/asked-room && mkdir build/asked-room
@@ -141,10 +151,8 @@ soak: build/second
 
 sanitize: build/questions build/sanitized/second build/sanitized/asked build/sanitized/desk build/sanitized/records
 	host/records-test.sh build/sanitized/records
-	rm -rf build/sanitized/site && cp -R examples/site build/sanitized/site
-	build/sanitized/records make build/sanitized/site
-	build/sanitized/desk build/sanitized/site >build/sanitized/site/desk.out
-	diff examples/site/desk.expected build/sanitized/site/desk.out
+	$(call example,site,build/sanitized)
+	$(call example,board,build/sanitized)
 	examples/desk-test.sh build/sanitized/desk build/sanitized/records build/sanitized/site
 	rm -rf build/sanitized/asked-room && mkdir build/sanitized/asked-room
 	build/sanitized/asked '$(CURDIR)/build/questions' build/sanitized/asked-room
@@ -185,8 +193,8 @@ build/bench$(BENCH_KIND): $(BENCH:%=build/bench-objects$(BENCH_KIND)/%.o) $(BENC
 # Made anew each time: another file may be meant by now, and an older one at that.
 build/before.a: $(BENCH_BEFORE) always
 	@mkdir -p $(@D)
-	objcopy --redefine-sym fiddlequill_judge=before_judge --redefine-sym fiddlequill_count=before_count \
-		--keep-global-symbol=before_judge --keep-global-symbol=before_count $< $@
+	objcopy $(foreach call,$(BENCH_BEFORE_CALLS),--redefine-sym fiddlequill_$(call)=before_$(call)) \
+		$(BENCH_BEFORE_CALLS:%=--keep-global-symbol=before_%) $< $@
 
 build/sanitized/second: $(SECOND:%=build/sanitized/%.o) $(ARCHIVE)
 	$(call link,$(SANITIZE))

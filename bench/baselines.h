@@ -10,16 +10,16 @@
 
 #include "fiddlequill.h"
 
-/* Where the margin begins in an answer record; it is the last field. */
-enum { MARGIN_AT = 16 };
+/* Where owner and spare bytes begin in a slot record, and the margin, the last field, in an answer record. */
+enum { OWNER_AT = 8, SPARE_AT = 10, MARGIN_AT = 16 };
 
-/* A task and its slots, read and accepted. */
+/* A task and the slots it owns, read and accepted. Few tasks fill the room for slots, so no baseline copies it. */
 struct plan {
     uint32_t id, w, e, D, h, m, k, slots;
     uint32_t start[FIDDLEQUILL_SLOTS_MAX], end[FIDDLEQUILL_SLOTS_MAX];
 };
 
-/* Refusals 1, 3, 4, 14 to 17 and 6 to 10, in this order; fills the plan where it gives 0. */
+/* Refusals 1, 3, 19, 4, 14 to 18 and 6 to 10, in this order; fills the plan where it gives 0. */
 uint32_t plan_read(struct plan *plan, const uint8_t *task, size_t task_len, const uint8_t *slots, size_t slots_len);
 /* Writes the answer up to the margin. */
 void plan_answer(const struct plan *plan, uint32_t number, uint32_t worst, uint32_t offset, uint8_t *reply);
@@ -64,7 +64,8 @@ struct fp {
     uint32_t zone[FIDDLEQUILL_WHEEL_MAX]; /* ticks where a miss zone starts */
 };
 
-void fp_open(struct fp *fp, const struct plan *plan);
+/* Fills in the rest beside the plan, which is there. */
+void fp_open(struct fp *fp);
 /* The candidate of zone start i of fp->zone and strip n, in half ticks. */
 uint32_t fp_candidate(const struct fp *fp, uint32_t i, uint32_t n);
 /* Drops from a half tick. */
@@ -86,10 +87,14 @@ uint32_t bytes_judge(const uint8_t *task, size_t task_len, const uint8_t *slots,
 uint64_t remainder_count(const uint8_t *task, size_t task_len, const uint8_t *slots, size_t slots_len, uint64_t offset);
 
 #ifdef BENCH_BEFORE
-/* fiddlequill_judge and fiddlequill_count of an older archive, in a copy with these names. */
+/* Calls of an older archive, in a copy with these names; it may read shorter slot records. */
 uint32_t before_judge(const uint8_t *task, size_t task_len, const uint8_t *slots, size_t slots_len, uint8_t *reply,
                       size_t reply_len);
+uint32_t before_site(const uint8_t *tasks, size_t tasks_len, const uint8_t *slots, size_t slots_len, uint8_t *reply,
+                     size_t reply_len);
 uint64_t before_count(const uint8_t *task, size_t task_len, const uint8_t *slots, size_t slots_len, uint64_t offset);
+uint64_t before_grant(uint8_t *marks, size_t marks_len, uint64_t v, uint64_t e, uint64_t d, uint64_t h, uint64_t m,
+                      uint64_t k);
 #endif
 
 /* Clears n bytes and reads them. */

@@ -1,9 +1,10 @@
 /*
  * Side by side, in one run and taking turns: the published Finite-Point method
  * (FP), plain doubling in C, in 16 bits and with a byte stage, the archive, and a
- * floor; then a site in one call beside a call for each sign, and counting beside
- * the obvious loop and, where one was given, an older archive. Every case compares
- * the answers; the exit status depends on that alone, never on a time.
+ * floor; then a task on a board beside its own records alone, a site in one call
+ * beside a call for each sign, and counting beside the obvious loop. Where an older
+ * archive was given, it takes its turns on the same tasks. Every case compares the
+ * answers; the exit status depends on that alone, never on a time.
  *
  *   bench FOLDER           prints the report, writes FOLDER/RESULTS.md and results.csv
  *   bench --once W SLOTS K calls each kind once, for counting instructions
@@ -84,9 +85,23 @@ static void take_turns(struct contender *contenders, size_t n)
             contenders[i].times[round] = time_job(&contenders[i]);
 }
 
+/* By turns with nobody else, and round by round: what disturbs the machine then disturbs both. */
+static double ratio_by_turns(job run, void *over, void *under)
+{
+    struct contender c[] = {{.run = run, .context = over}, {.run = run, .context = under}};
+    double ratios[ROUNDS];
+    take_turns(c, LENGTH(c));
+    for (size_t i = 0; i < ROUNDS; i++)
+        ratios[i] = c[0].times[i] / c[1].times[i];
+    return median(ratios);
+}
+
 /* ---- jobs ---- */
 
+/* Also the call for a whole site. */
 typedef uint32_t (*judge)(const uint8_t *, size_t, const uint8_t *, size_t, uint8_t *, size_t);
+typedef uint64_t (*count)(const uint8_t *, size_t, const uint8_t *, size_t, uint64_t);
+typedef uint64_t (*grant)(uint8_t *, size_t, uint64_t, uint64_t, uint64_t, uint64_t, uint64_t, uint64_t);
 
 struct judging {
     const struct workload *load;
@@ -107,6 +122,11 @@ static struct judging judged_by(judge judge, const struct workload *load)
     struct judging judging = {.load = load, .judge = judge};
     judge_job(&judging);
     return judging;
+}
+
+static bool same_bytes(const struct judging *a, const struct judging *b)
+{
+    return a->number == b->number && memcmp(a->reply, b->reply, sizeof a->reply) == 0;
 }
 
 /* Up to the margin, which the baselines don't have. */
@@ -139,7 +159,7 @@ struct sampling {
 static void zones_job(void *context)
 {
     struct sampling *s = context;
-    fp_open(&s->fp, &s->load->fp.plan);
+    fp_open(&s->fp);
 }
 
 static void sample_job(void *context)
@@ -163,6 +183,45 @@ static void floor_job(void *context)
 {
     struct floor_run *f = context;
     f->sum = floor_pass(f->bytes, f->n);
+}
+
+/* ---- an older archive ---- */
+
+#ifdef BENCH_BEFORE
+#define BEFORE_CALL(name) before_##name
+#else
+#define BEFORE_CALL(name) NULL
+#endif
+
+static struct {
+    size_t slot_bytes; /* of a slot record as it reads them; 0 where no older archive was given */
+    judge judge, site;
+    count count;
+    grant grant;
+} older = {0, BEFORE_CALL(judge), BEFORE_CALL(site), BEFORE_CALL(count), BEFORE_CALL(grant)};
+
+/* The task of a cell for the older archive. It owns all its slots, so the owners may be cut off. */
+static void make_older(struct workload *load, struct cell cell)
+{
+    make_workload(load, cell);
+    load->slots_len = cut_slots(load->slots, load->slots_len, older.slot_bytes);
+}
+
+/* An older record is the beginning of today's. One record is no whole number of those of another size: 1 is given. */
+static void find_slot_bytes(void)
+{
+    static const size_t sizes[] = {FIDDLEQUILL_SLOT_BYTES, OWNER_AT}; /* whole records, or start and end alone */
+    static struct workload load;
+    if (older.judge == NULL)
+        return;
+    for (size_t i = 0; i < LENGTH(sizes); i++) {
+        older.slot_bytes = sizes[i];
+        make_older(&load, (struct cell){55, 1, 10});
+        if (judged_by(older.judge, &load).number == FIDDLEQUILL_OK)
+            return;
+    }
+    fprintf(stderr, "bench: the older archive answers no slot record of a size that is known\n");
+    exit(2);
 }
 
 /* ---- the grid ---- */
@@ -240,19 +299,15 @@ static void fill_row(struct row *row, const struct workload *load)
                  (row->way == FP_SAMPLE ? sample_agrees(&sampling, &ours) : same_answer(&fp, &ours));
 }
 
-/* By turns with the older archive alone: the ratio is near 1, and other contenders would only disturb it. */
 static void fill_before(struct row *row, const struct workload *load)
 {
-#ifdef BENCH_BEFORE
-    struct judging ours = judged_by(fiddlequill_judge, load), before = judged_by(before_judge, load);
-    struct contender c[] = {{.run = judge_job, .context = &ours}, {.run = judge_job, .context = &before}};
-    take_turns(c, LENGTH(c));
-    row->before = median(c[0].times) / median(c[1].times);
-    row->agree &= same_answer(&before, &ours);
-#else
-    (void)load;
-    row->before = 0;
-#endif
+    static struct workload cut;
+    if (older.slot_bytes == 0)
+        return;
+    make_older(&cut, load->cell);
+    struct judging ours = judged_by(fiddlequill_judge, load), before = judged_by(older.judge, &cut);
+    row->before = ratio_by_turns(judge_job, &ours, &before);
+    row->agree &= same_bytes(&before, &ours);
 }
 
 /* ---- growth: one judging against another ---- */
@@ -263,24 +318,46 @@ static void fill_growth(struct growth *growth)
     make_workload(&small, growth->small);
     make_workload(&large, growth->large);
     struct judging a = judged_by(fiddlequill_judge, &small), b = judged_by(fiddlequill_judge, &large);
-    struct contender c[] = {{.run = judge_job, .context = &a}, {.run = judge_job, .context = &b}};
+    growth->ratio = ratio_by_turns(judge_job, &b, &a);
+}
+
+/* ---- boards ---- */
+
+/* Where the board has other owners, the answer is that of the task's own records, the margin included. */
+static void fill_board(struct board_row *row)
+{
+    static struct workload board, alone;
+    const bool all_own = row->cell.slots == FIDDLEQUILL_SLOTS_MAX;
+    make_workload(&alone, row->beside);
+    if (all_own)
+        make_workload(&board, row->cell);
+    else
+        make_board(&board, &alone);
+    struct judging there = judged_by(fiddlequill_judge, &board), here = judged_by(fiddlequill_judge, &alone);
+    struct judging doubling = judged_by(doubling_judge, &board);
+    struct contender c[] = {{.run = judge_job, .context = &there}, {.run = judge_job, .context = &here}};
     take_turns(c, LENGTH(c));
-    growth->ratio = median(c[1].times) / median(c[0].times);
+    row->board = median(c[0].times);
+    row->alone = median(c[1].times);
+    row->spread = largest_spread(c, LENGTH(c));
+    row->agree = same_answer(&doubling, &there) && margin_agrees(&there) && here.number == FIDDLEQUILL_OK &&
+                 (all_own || same_bytes(&there, &here));
 }
 
 /* ---- grants ---- */
 
 struct granting {
+    grant grant;
     uint64_t v, e, h, k;
     uint64_t result;
+    uint8_t marks[GRANT_SLOTS];
 };
 
 static void grant_job(void *context)
 {
     struct granting *g = context;
-    uint8_t marks[GRANT_SLOTS];
-    memset(marks, 1, sizeof marks);
-    g->result = fiddlequill_grant(marks, sizeof marks, g->v, g->e, g->h, g->h, g->k, g->k);
+    memset(g->marks, 1, sizeof g->marks);
+    g->result = g->grant(g->marks, sizeof g->marks, g->v, g->e, g->h, g->h, g->k, g->k);
 }
 
 /* A judging of the grant's wheel with the first j slots; m is k, so firm means that nothing drops. */
@@ -289,7 +366,7 @@ static void wheel_of_grant(struct workload *load, const struct granting *g, uint
     load->cell = (struct cell){(uint32_t)(GRANT_SLOTS * g->v), j, (uint32_t)g->k};
     load->slots_len = 0;
     for (uint32_t i = 0; i < j; i++)
-        put_slot(load, (uint32_t)(i * g->v), (uint32_t)((i + 1) * g->v));
+        put_slot(load, (uint32_t)(i * g->v), (uint32_t)((i + 1) * g->v), PAINTER);
     put_task(load, (uint32_t)g->e, (uint32_t)g->h, (uint32_t)g->k);
 }
 
@@ -309,12 +386,23 @@ static bool grant_agrees(const struct granting *g, uint32_t number, uint32_t gra
     return firm_with(g, granted) && (granted == 0 || !firm_with(g, granted - 1));
 }
 
+static void fill_grant_before(struct grant_row *row, struct granting *ours)
+{
+    struct granting before = *ours;
+    if (older.slot_bytes == 0)
+        return;
+    before.grant = older.grant;
+    row->before = ratio_by_turns(grant_job, ours, &before);
+    row->agree &= before.result == ours->result && memcmp(before.marks, ours->marks, sizeof before.marks) == 0;
+}
+
 /* The need as sixty-fourths of the window: more than a part of the wheel's slots, all of them, or too many. */
 static void fill_grant(struct grant_row *row, uint32_t sixtyfourths)
 {
     static struct workload load;
     uint32_t h = period_for(GRANT_SLOTS * row->v, GRANT_SLOTS);
-    struct granting g = {.v = row->v, .e = (uint64_t)h * sixtyfourths / GRANT_SLOTS, .h = h, .k = row->k};
+    uint64_t e = (uint64_t)h * sixtyfourths / GRANT_SLOTS;
+    struct granting g = {.grant = fiddlequill_grant, .v = row->v, .e = e, .h = h, .k = row->k};
     grant_job(&g);
     row->number = fiddlequill_number(g.result);
     row->granted = fiddlequill_value(g.result);
@@ -326,13 +414,14 @@ static void fill_grant(struct grant_row *row, uint32_t sixtyfourths)
     row->grant = median(c[0].times);
     row->judging = median(c[1].times);
     row->judgements = row->grant / row->judging;
+    fill_grant_before(row, &g);
 }
 
 /* ---- sites ---- */
 
 struct siting {
     const struct site *site;
-    judge judge; /* of a single sign; unused by the call for all */
+    judge judge; /* of all signs at once, or of a single one */
     uint8_t reply[SIGNS * FIDDLEQUILL_ANSWER_BYTES];
     uint32_t number;
 };
@@ -340,8 +429,8 @@ struct siting {
 static void site_job(void *context)
 {
     struct siting *s = context;
-    s->number = fiddlequill_site(s->site->tasks, sizeof s->site->tasks, s->site->slots, s->site->slots_len, s->reply,
-                                 sizeof s->reply);
+    s->number = s->judge(s->site->tasks, sizeof s->site->tasks, s->site->slots, s->site->slots_len, s->reply,
+                         sizeof s->reply);
 }
 
 static void singles_job(void *context)
@@ -371,12 +460,25 @@ static bool signs_agree(const struct siting *ours, const struct siting *baseline
     return baseline->number == FIDDLEQUILL_OK;
 }
 
+static void fill_site_before(struct site_row *row, struct siting *ours)
+{
+    static struct site cut;
+    if (older.slot_bytes == 0)
+        return;
+    cut = *ours->site;
+    cut.slots_len = cut_slots(cut.slots, cut.slots_len, older.slot_bytes);
+    struct siting before = {.site = &cut, .judge = older.site};
+    row->before = ratio_by_turns(site_job, ours, &before);
+    row->agree &= same_site(&before, ours);
+}
+
 /* Plain doubling judges each sign once, so that the archive isn't compared with itself alone. */
 static void fill_site(struct site_row *row)
 {
     static struct site site;
     make_site(&site, row->cell);
-    struct siting whole = {.site = &site}, singles = {.site = &site, .judge = fiddlequill_judge};
+    struct siting whole = {.site = &site, .judge = fiddlequill_site};
+    struct siting singles = {.site = &site, .judge = fiddlequill_judge};
     struct siting doubling = {.site = &site, .judge = doubling_judge};
     struct contender c[] = {{.run = site_job, .context = &whole}, {.run = singles_job, .context = &singles}};
     take_turns(c, LENGTH(c));
@@ -385,17 +487,28 @@ static void fill_site(struct site_row *row)
     row->singles = median(c[1].times);
     row->spread = largest_spread(c, LENGTH(c));
     row->agree = same_site(&whole, &singles) && signs_agree(&whole, &doubling);
+    fill_site_before(row, &whole);
 }
 
 /* ---- counting ---- */
 
-typedef uint64_t (*count)(const uint8_t *, size_t, const uint8_t *, size_t, uint64_t);
+static const count counters[COUNTERS] = {
+    [OURS] = fiddlequill_count, [LOOP] = remainder_count, [BEFORE] = BEFORE_CALL(count)};
 
-#ifdef BENCH_BEFORE
-static const count counters[] = {[OURS] = fiddlequill_count, [LOOP] = remainder_count, [BEFORE] = before_count};
-#else
-static const count counters[] = {[OURS] = fiddlequill_count, [LOOP] = remainder_count};
-#endif
+static size_t counters_given(void)
+{
+    return older.slot_bytes != 0 ? COUNTERS : BEFORE;
+}
+
+/* A task for each counter, in slot records as it reads them. */
+static void make_counted(struct workload loads[COUNTERS], struct cell cell)
+{
+    for (size_t i = 0; i < counters_given(); i++)
+        if (i == BEFORE)
+            make_older(&loads[i], cell);
+        else
+            make_workload(&loads[i], cell);
+}
 
 struct counting {
     const struct workload *load;
@@ -416,25 +529,25 @@ static uint64_t counted_by(count count, const struct workload *load, uint64_t of
     return counting.result;
 }
 
-static bool same_count(const struct workload *load, uint64_t offset)
+static bool same_count(const struct workload loads[COUNTERS], uint64_t offset)
 {
-    uint64_t ours = counted_by(fiddlequill_count, load, offset);
+    uint64_t ours = counted_by(counters[OURS], &loads[OURS], offset);
     bool same = true;
-    for (size_t i = 0; i < LENGTH(counters); i++)
-        same &= counted_by(counters[i], load, offset) == ours;
+    for (size_t i = OURS + 1; i < counters_given(); i++)
+        same &= counted_by(counters[i], &loads[i], offset) == ours;
     return same;
 }
 
 /* At the half tick that is timed, at the wheel's ends and just beyond, which is refused, and at some drawn ones. */
-static bool same_counts(const struct workload *load, uint64_t timed)
+static bool same_counts(const struct workload loads[COUNTERS], uint64_t timed)
 {
-    const uint64_t turn = 2 * load->cell.w, chosen[] = {timed, 0, 1, turn - 1, turn};
-    uint64_t state = load->cell.w;
+    const uint64_t turn = 2 * loads->cell.w, chosen[] = {timed, 0, 1, turn - 1, turn};
+    uint64_t state = loads->cell.w;
     bool same = true;
     for (size_t i = 0; i < LENGTH(chosen); i++)
-        same &= same_count(load, chosen[i]);
+        same &= same_count(loads, chosen[i]);
     for (size_t i = 0; i < 8; i++)
-        same &= same_count(load, draw(&state) % turn);
+        same &= same_count(loads, draw(&state) % turn);
     return same;
 }
 
@@ -458,26 +571,29 @@ static struct count_times count_times(struct contender *all, struct contender *o
 /* From the half tick that judging finds, where the count must be its worst. */
 static void fill_count(struct count_row *row)
 {
-    static struct workload load, single;
-    make_workload(&load, row->cell);
-    make_workload(&single, (struct cell){row->cell.w, row->cell.slots, 1});
-    struct judging judging = judged_by(fiddlequill_judge, &load);
+    static struct workload loads[COUNTERS], singles[COUNTERS];
+    make_counted(loads, row->cell);
+    make_counted(singles, (struct cell){row->cell.w, row->cell.slots, 1});
+    struct judging judging = judged_by(fiddlequill_judge, &loads[OURS]);
     uint32_t worst = get_number(judging.reply + 8, 4), offset = get_number(judging.reply + 12, 4);
-    struct counting all[LENGTH(counters)], one[LENGTH(counters)];
-    struct contender c[1 + 2 * LENGTH(counters)] = {{.run = judge_job, .context = &judging}};
-    for (size_t i = 0; i < LENGTH(counters); i++) {
-        all[i] = (struct counting){.load = &load, .count = counters[i], .offset = offset};
-        one[i] = (struct counting){.load = &single, .count = counters[i], .offset = offset};
+    struct counting all[COUNTERS], one[COUNTERS];
+    struct contender c[1 + 2 * COUNTERS] = {{.run = judge_job, .context = &judging}};
+    const size_t given = counters_given(), taking_turns = 1 + 2 * given;
+    for (size_t i = 0; i < given; i++) {
+        all[i] = (struct counting){.load = &loads[i], .count = counters[i], .offset = offset};
+        one[i] = (struct counting){.load = &singles[i], .count = counters[i], .offset = offset};
         c[1 + 2 * i] = (struct contender){.run = count_job, .context = &all[i]};
         c[2 + 2 * i] = (struct contender){.run = count_job, .context = &one[i]};
     }
-    take_turns(c, LENGTH(c));
+    take_turns(c, taking_turns);
     row->judging = median(c[0].times);
-    for (size_t i = 0; i < LENGTH(counters); i++)
+    for (size_t i = 0; i < given; i++)
         row->by[i] = count_times(&c[1 + 2 * i], &c[2 + 2 * i]);
-    row->spread = largest_spread(c, LENGTH(c));
-    row->agree = judging.number == FIDDLEQUILL_OK && all[OURS].result == worst && same_counts(&load, offset) &&
-                 same_counts(&single, offset);
+    row->spread = largest_spread(c, taking_turns);
+    row->agree = judging.number == FIDDLEQUILL_OK && all[OURS].result == worst && same_counts(loads, offset) &&
+                 same_counts(singles, offset);
+    if (given > BEFORE)
+        row->before = ratio_by_turns(count_job, &all[OURS], &all[BEFORE]);
 }
 
 /* ---- a whole run ---- */
@@ -486,6 +602,12 @@ static const uint32_t wheels[] = {55, 700, 1300, 4096, 16384};
 static const uint32_t slot_counts[] = {1, 4, 16, 64};
 static const uint32_t strip_counts[] = {10, 125, 1024};
 static const uint32_t grant_lengths[] = {1, 20, 64, 256};
+static const struct {
+    struct cell cell;
+    uint32_t beside; /* slots on the table beside the board, all of them owned */
+} board_cells[] = {{{4096, 4, 10}, 4},  {{4096, 4, 125}, 4},  {{4096, 4, 1024}, 4},
+                   {{16384, 4, 10}, 4}, {{16384, 4, 125}, 4}, {{16384, 4, 1024}, 4},
+                   {{4096, FIDDLEQUILL_SLOTS_MAX, 125}, 64}, {{16384, FIDDLEQUILL_SLOTS_MAX, 125}, 64}};
 static const struct cell site_cells[] = {{55, 4, 10},    {55, 4, 125},  {1300, 4, 10},
                                          {1300, 4, 125}, {4096, 4, 10}, {4096, 4, 125}};
 static const struct cell count_cells[] = {{55, 4, 10},    {55, 4, 125},    {55, 4, 1024},
@@ -500,6 +622,7 @@ static const struct {
 /* results.h has room for these. */
 _Static_assert(LENGTH(wheels) * LENGTH(slot_counts) * LENGTH(strip_counts) <= ROWS_MAX, "rows");
 _Static_assert(LENGTH(slot_counts) * (1 + LENGTH(strip_counts)) + 2 * LENGTH(strip_counts) <= GROWTHS_MAX, "growths");
+_Static_assert(LENGTH(board_cells) <= BOARDS_MAX, "boards");
 _Static_assert(LENGTH(grant_lengths) * LENGTH(strip_counts) * LENGTH(grant_kinds) <= GRANTS_MAX, "grants");
 _Static_assert(LENGTH(site_cells) <= SITES_MAX, "sites");
 _Static_assert(LENGTH(count_cells) <= COUNTS_MAX, "counts");
@@ -543,6 +666,17 @@ static void run_growth(struct results *results)
                        (struct cell){w, 64, strip_counts[i]});
 }
 
+static void run_boards(struct results *results)
+{
+    results->boards = LENGTH(board_cells);
+    for (size_t i = 0; i < results->boards; i++) {
+        struct board_row *row = &results->board[i];
+        row->cell = row->beside = board_cells[i].cell;
+        row->beside.slots = board_cells[i].beside;
+        fill_board(row);
+    }
+}
+
 static void run_grants(struct results *results)
 {
     results->grants = LENGTH(grant_lengths) * LENGTH(strip_counts) * LENGTH(grant_kinds);
@@ -567,7 +701,6 @@ static void run_sites(struct results *results)
 
 static void run_counts(struct results *results)
 {
-    results->before = LENGTH(counters) > BEFORE;
     results->counts = LENGTH(count_cells);
     for (size_t i = 0; i < results->counts; i++) {
         results->count[i].cell = count_cells[i];
@@ -593,8 +726,11 @@ static int write_results(const char *folder, const char *name, void (*print)(FIL
 static int run(const char *folder)
 {
     static struct results results;
+    find_slot_bytes();
+    results.before_slot_bytes = older.slot_bytes;
     run_grid(&results);
     run_growth(&results);
+    run_boards(&results);
     run_grants(&results);
     run_sites(&results);
     run_counts(&results);
@@ -612,17 +748,17 @@ static int once(struct cell cell)
     static struct workload load;
     static struct site site;
     if (cell.w == 0 || cell.slots == 0 || cell.slots > FIDDLEQUILL_SLOTS_MAX || cell.slots > cell.w / 2) {
-        fprintf(stderr, "bench: slots go from 1 to 64 and to half of w\n");
+        fprintf(stderr, "bench: slots go from 1 to %u and to half of w\n", FIDDLEQUILL_SLOTS_MAX);
         return 2;
     }
     make_workload(&load, cell);
     struct judging doubling = judged_by(doubling_judge, &load), ours = judged_by(fiddlequill_judge, &load);
     uint64_t count = counted_by(fiddlequill_count, &load, get_number(ours.reply + 12, 4));
     uint32_t v = cell.w < GRANT_SLOTS ? 1 : cell.w / GRANT_SLOTS, h = period_for(GRANT_SLOTS * v, GRANT_SLOTS);
-    struct granting grant = {.v = v, .e = h / 3, .h = h, .k = cell.k};
+    struct granting grant = {.grant = fiddlequill_grant, .v = v, .e = h / 3, .h = h, .k = cell.k};
     grant_job(&grant);
     make_site(&site, cell);
-    struct siting whole = {.site = &site};
+    struct siting whole = {.site = &site, .judge = fiddlequill_site};
     site_job(&whole);
     printf("judged: worst %" PRIu32 "; counted there: %" PRIu32 "; granted: %" PRIu32 "; the last sign: worst %" PRIu32
            "\n",

@@ -29,10 +29,10 @@ static int dropped(const struct fp *fp, uint32_t time)
     return supply(fp, time) < 2 * fp->plan.e;
 }
 
-void fp_open(struct fp *fp, const struct plan *plan)
+void fp_open(struct fp *fp)
 {
+    const struct plan *plan = &fp->plan;
     uint32_t inside = 0;
-    fp->plan = *plan;
     fp->turn = 2 * plan->w;
     fp->rest = 2 * plan->D % fp->turn;
     for (uint32_t i = 0; i < plan->slots; i++)
@@ -73,19 +73,18 @@ void fp_supplies(const struct fp *fp, uint32_t *least, uint32_t *largest)
 uint32_t fp_judge(const uint8_t *task, size_t task_len, const uint8_t *slots, size_t slots_len, uint8_t *reply,
                   size_t reply_len)
 {
-    struct plan plan;
     struct fp fp;
-    uint32_t number = plan_read(&plan, task, task_len, slots, slots_len);
+    uint32_t number = plan_read(&fp.plan, task, task_len, slots, slots_len);
     if (number == FIDDLEQUILL_BAD_LENGTH)
         return number;
     if (reply_len < FIDDLEQUILL_ANSWER_BYTES)
         return FIDDLEQUILL_SHORT_REPLY;
     uint32_t worst = 0, at = 0;
     if (number == FIDDLEQUILL_OK) {
-        fp_open(&fp, &plan);
+        fp_open(&fp);
         worst = fp_count(&fp, 0);
         for (uint32_t i = 0; i < fp.zones; i++)
-            for (uint32_t n = 0; n < plan.k; n++) {
+            for (uint32_t n = 0; n < fp.plan.k; n++) {
                 uint32_t offset = fp_candidate(&fp, i, n), drops = fp_count(&fp, offset);
                 if (drops > worst || (drops == worst && offset < at)) {
                     worst = drops;
@@ -93,6 +92,6 @@ uint32_t fp_judge(const uint8_t *task, size_t task_len, const uint8_t *slots, si
                 }
             }
     }
-    plan_answer(&plan, number, worst, at, reply);
+    plan_answer(&fp.plan, number, worst, at, reply);
     return number;
 }

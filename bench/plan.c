@@ -4,11 +4,12 @@
 
 #include <string.h>
 
-static uint32_t read_slots(struct plan *plan, const uint8_t *slots, uint32_t first)
+/* All of the board's records are tested; the next one takes the place of one that isn't the task's. */
+static uint32_t read_slots(struct plan *plan, const uint8_t *board, uint32_t count)
 {
-    uint32_t previous_end = 0;
-    for (uint32_t i = 0; i < plan->slots; i++) {
-        const uint8_t *slot = slots + (size_t)(first + i) * FIDDLEQUILL_SLOT_BYTES;
+    uint32_t previous_end = 0, owned = 0;
+    for (uint32_t i = 0; i < count; i++) {
+        const uint8_t *slot = board + (size_t)i * FIDDLEQUILL_SLOT_BYTES;
         uint32_t start = get_number(slot, 4), end = get_number(slot + 4, 4);
         if (start >= end)
             return FIDDLEQUILL_EMPTY_SLOT;
@@ -16,9 +17,13 @@ static uint32_t read_slots(struct plan *plan, const uint8_t *slots, uint32_t fir
             return FIDDLEQUILL_SLOT_PAST_WHEEL;
         if (start < previous_end)
             return FIDDLEQUILL_EARLY_SLOT;
-        plan->start[i] = start;
-        plan->end[i] = previous_end = end;
+        if (get_number(slot + SPARE_AT, 2) != 0)
+            return FIDDLEQUILL_SPARE_USED;
+        plan->start[owned] = start;
+        plan->end[owned] = previous_end = end;
+        owned += get_number(slot + OWNER_AT, 2) == plan->id;
     }
+    plan->slots = owned;
     return FIDDLEQUILL_OK;
 }
 
@@ -39,7 +44,7 @@ uint32_t plan_read(struct plan *plan, const uint8_t *task, size_t task_len, cons
 {
     if (task_len != FIDDLEQUILL_TASK_BYTES || slots_len % FIDDLEQUILL_SLOT_BYTES != 0)
         return FIDDLEQUILL_BAD_LENGTH;
-    uint32_t first = get_number(task + 28, 2);
+    uint32_t first = get_number(task + 28, 2), count = get_number(task + 30, 2);
     plan->id = get_number(task, 4);
     plan->w = get_number(task + 4, 4);
     plan->e = get_number(task + 8, 4);
@@ -47,14 +52,15 @@ uint32_t plan_read(struct plan *plan, const uint8_t *task, size_t task_len, cons
     plan->h = get_number(task + 16, 4);
     plan->m = get_number(task + 20, 4);
     plan->k = get_number(task + 24, 4);
-    plan->slots = get_number(task + 30, 2);
-    if (first + plan->slots > slots_len / FIDDLEQUILL_SLOT_BYTES)
+    if (first + count > slots_len / FIDDLEQUILL_SLOT_BYTES)
         return FIDDLEQUILL_BEYOND_SLOTS;
+    if (plan->id > FIDDLEQUILL_ID_MAX)
+        return FIDDLEQUILL_BAD_ID;
     if (plan->w == 0 || plan->w > FIDDLEQUILL_WHEEL_MAX)
         return FIDDLEQUILL_BAD_WHEEL;
-    if (plan->slots > FIDDLEQUILL_SLOTS_MAX)
+    if (count > FIDDLEQUILL_SLOTS_MAX)
         return FIDDLEQUILL_MANY_SLOTS;
-    uint32_t number = read_slots(plan, slots, first);
+    uint32_t number = read_slots(plan, slots + (size_t)first * FIDDLEQUILL_SLOT_BYTES, count);
     return number != FIDDLEQUILL_OK ? number : check_limits(plan);
 }
 

@@ -12,6 +12,8 @@ size_t differences(const struct results *results)
     size_t found = 0;
     for (size_t i = 0; i < results->rows; i++)
         found += !results->row[i].agree;
+    for (size_t i = 0; i < results->boards; i++)
+        found += !results->board[i].agree;
     for (size_t i = 0; i < results->grants; i++)
         found += !results->grant[i].agree;
     for (size_t i = 0; i < results->sites; i++)
@@ -23,15 +25,35 @@ size_t differences(const struct results *results)
 
 /* ---- goals ---- */
 
-static const struct row *row_of(const struct results *results, uint32_t w, uint32_t slots, uint32_t k)
+static bool same_cell(struct cell a, struct cell b)
 {
-    for (size_t i = 0; i < results->rows; i++) {
-        const struct cell *cell = &results->row[i].cell;
-        if (cell->w == w && cell->slots == slots && cell->k == k)
-            return &results->row[i];
-    }
+    return a.w == b.w && a.slots == b.slots && a.k == b.k;
+}
+
+static void no_such_cell(void)
+{
     fprintf(stderr, "bench: no such cell\n");
     exit(2);
+}
+
+static const struct row *row_of(const struct results *results, struct cell cell)
+{
+    size_t i = 0;
+    while (i < results->rows && !same_cell(results->row[i].cell, cell))
+        i++;
+    if (i == results->rows)
+        no_such_cell();
+    return &results->row[i];
+}
+
+static const struct board_row *board_of(const struct results *results, struct cell cell)
+{
+    size_t i = 0;
+    while (i < results->boards && !same_cell(results->board[i].cell, cell))
+        i++;
+    if (i == results->boards)
+        no_such_cell();
+    return &results->board[i];
 }
 
 static double fp_ratio(const struct row *row)
@@ -64,12 +86,32 @@ static double most_doubling_ratio(const struct results *results, uint32_t from, 
     return most;
 }
 
-static double most_before_ratio(const struct results *results)
+static double most_over_before(const struct results *results)
 {
     double most = 0;
     for (size_t i = 0; i < results->rows; i++)
         most = results->row[i].before > most ? results->row[i].before : most;
     return most;
+}
+
+static double most_count_over_before(const struct results *results)
+{
+    double most = 0;
+    for (size_t i = 0; i < results->counts; i++)
+        most = results->count[i].before > most ? results->count[i].before : most;
+    return most;
+}
+
+static double board_ratio(const struct board_row *row)
+{
+    return row->board / row->alone;
+}
+
+/* What a record of another owner takes, in ns; 0 where there is none. */
+static double other_record(const struct board_row *row)
+{
+    uint32_t others = FIDDLEQUILL_SLOTS_MAX - row->cell.slots;
+    return others > 0 ? (row->board - row->alone) / others : 0;
 }
 
 static double most_judgements(const struct results *results)
@@ -133,8 +175,22 @@ static void print_goal_at(FILE *out, const char *ratio, const struct cell *cell,
 static void print_cell_goal(FILE *out, const struct results *results, const char *ratio, struct cell cell,
                             bool at_least, double goal, double (*measured)(const struct row *))
 {
-    const struct row *row = row_of(results, cell.w, cell.slots, cell.k);
+    const struct row *row = row_of(results, cell);
     print_goal_at(out, ratio, &cell, row->way == FP_SAMPLE ? " (~)" : "", at_least, goal, measured(row));
+}
+
+static void print_before_goals(FILE *out, const struct results *results)
+{
+    if (results->before_slot_bytes == 0)
+        return;
+    print_goal(out, "judging: ours ÷ before, the most of all cells", false, 1.1, most_over_before(results));
+    print_goal(out, "counting: ours ÷ before, the most of all cells", false, 1.1, most_count_over_before(results));
+}
+
+static void print_board_goal(FILE *out, const struct results *results)
+{
+    const struct board_row *row = board_of(results, (struct cell){4096, 4, 125});
+    print_goal_at(out, "a board ÷ own records alone", &row->cell, "", false, 4, board_ratio(row));
 }
 
 /* No row may lose by the one call, and the aim is that each gains. */
@@ -169,7 +225,7 @@ static const struct {
 
 static void print_goals(FILE *out, const struct results *r)
 {
-    fprintf(out, "| goal (a cell is w / slots / k) | wanted | measured | |\n|---|---|---:|---|\n");
+    fprintf(out, "## Goals\n\n| goal (a cell is w / slots / k) | wanted | measured | |\n|---|---|---:|---|\n");
     print_goal(out, "FP ÷ ours, the least of all cells", true, 7, least_fp_ratio(r));
     for (size_t i = 0; i < sizeof fp_goals / sizeof *fp_goals; i++)
         print_cell_goal(out, r, "FP ÷ ours", fp_goals[i].cell, true, fp_goals[i].least, fp_ratio);
@@ -178,8 +234,8 @@ static void print_goals(FILE *out, const struct results *r)
     for (size_t i = 0; i < sizeof doubling_goals / sizeof *doubling_goals; i++)
         print_cell_goal(out, r, "ours ÷ doubling", doubling_goals[i].cell, false, doubling_goals[i].most,
                         doubling_ratio);
-    if (r->before)
-        print_goal(out, "ours ÷ before, the most of all cells", false, 1.15, most_before_ratio(r));
+    print_before_goals(out, r);
+    print_board_goal(out, r);
     print_goal(out, "a grant of up to 64 slots, in judgements, the most", false, 7.5, most_judgements(r));
     print_site_goals(out, r);
     print_count_goals(out, r);
@@ -215,10 +271,25 @@ static void print_column(FILE *out, double value)
         fprintf(out, "| – ");
 }
 
+static void print_grid_words(FILE *out)
+{
+    fprintf(out, "\n## Judging\n\nThe slots lie at an even pitch, each half of it long and moved a little; D = h is a "
+                 "turn, a third and half a\npitch, coprime to w; e lies midway between the least and the largest "
+                 "supply.\n");
+    fprintf(out, "FP takes its turn in every round, or is timed whole but once where it needs more than %.0f ms. ~ is "
+                 "FP over a\nrandom sample of its candidates, scaled up to all, where it needs more than %.0f s; "
+                 "that can be well off.\n", fp_rounds_ns / 1e6, fp_once_ns / 1e9);
+    fprintf(out, "All answers are compared; beside ~ only the sample's counts and FP's count at the answer's offset.\n"
+                 "Spread is the upper over the lower quartile of the rounds, the largest of a row: far above 1 the "
+                 "row was\ndisturbed.\n\n");
+}
+
 static void print_grid(FILE *out, const struct results *results)
 {
+    print_grid_words(out);
     fprintf(out, "| w | slots | k | zone starts | FP ÷ ours | ours ÷ doubling | ours ÷ byte stage | ours ÷ before "
-                 "| FP (µs) | doubling (µs) | byte stage (µs) | ours (µs) | floor (µs) | FP timed | spread | answers |\n"
+                 "| FP (µs) | doubling (µs) | byte stage (µs) | ours (µs) | floor (µs) | FP timed | spread "
+                 "| answers |\n"
                  "|---:|---:|---:|---:|---:|---:|---:|---:|---:|---:|---:|---:|---:|---|---:|---|\n");
     for (size_t i = 0; i < results->rows; i++) {
         const struct row *row = &results->row[i];
@@ -242,7 +313,7 @@ static void print_cell(FILE *out, const struct cell *cell)
 
 static void print_growth(FILE *out, const struct results *results)
 {
-    fprintf(out, "| growth in | w / slots / k | against | time ratio |\n|---|---|---|---:|\n");
+    fprintf(out, "\n## Growth of ours\n\n| growth in | w / slots / k | against | time ratio |\n|---|---|---|---:|\n");
     for (size_t i = 0; i < results->growths; i++) {
         const struct growth *g = &results->growth[i];
         fprintf(out, "| %s ", growth_names[g->in]);
@@ -252,39 +323,76 @@ static void print_growth(FILE *out, const struct results *results)
     }
 }
 
+static void print_boards(FILE *out, const struct results *results)
+{
+    fprintf(out, "\n## A board\n\nA task that owns a part of a board of %u slot records, against the same task on its "
+                 "own records alone: both answers\nmust be the same bytes. The others are short slots of other owners "
+                 "in all the gaps; other record is what each of\nthem adds. Where the task owns the whole board, a "
+                 "task with fewer slots, made alike, stands beside it. All boards\nare compared with doubling, too."
+                 "\n\n", FIDDLEQUILL_SLOTS_MAX);
+    fprintf(out, "| w | records | owned | k | alone: records | board ÷ alone | other record (ns) | board (µs) "
+                 "| alone (µs) | spread | answers |\n"
+                 "|---:|---:|---:|---:|---:|---:|---:|---:|---:|---:|---|\n");
+    for (size_t i = 0; i < results->boards; i++) {
+        const struct board_row *row = &results->board[i];
+        const double columns[] = {board_ratio(row), other_record(row), row->board / 1e3, row->alone / 1e3,
+                                  row->spread};
+        fprintf(out, "| %" PRIu32 " | %u | %" PRIu32 " | %" PRIu32 " | %" PRIu32 " ", row->cell.w,
+                FIDDLEQUILL_SLOTS_MAX, row->cell.slots, row->cell.k, row->beside.slots);
+        for (size_t j = 0; j < sizeof columns / sizeof *columns; j++)
+            print_column(out, columns[j]);
+        fprintf(out, "| %s |\n", row->agree ? "equal" : "DIFFERENT");
+    }
+}
+
 static void print_grants(FILE *out, const struct results *results)
 {
-    fprintf(out, "| N | v | k | grant | slots granted | in judgements | grant (µs) | judgement (µs) | answers |\n"
-                 "|---:|---:|---:|---|---:|---:|---:|---:|---|\n");
+    fprintf(out, "\n## Grants\n\nAll slots are free, m = k. A judgement is of the same wheel with the granted slots "
+                 "(all, where refused).\n\n");
+    fprintf(out, "| N | v | k | grant | slots granted | in judgements | ours ÷ before | grant (µs) | judgement (µs) "
+                 "| answers |\n"
+                 "|---:|---:|---:|---|---:|---:|---:|---:|---:|---|\n");
     for (size_t i = 0; i < results->grants; i++) {
         const struct grant_row *row = &results->grant[i];
-        fprintf(out, "| %d | %" PRIu32 " | %" PRIu32 " | %s | %" PRIu32 " | %.2f | %.2f | %.2f | %s |\n", GRANT_SLOTS,
-                row->v, row->k, row->kind, row->granted, row->judgements, row->grant / 1e3, row->judging / 1e3,
+        fprintf(out, "| %d | %" PRIu32 " | %" PRIu32 " | %s | %" PRIu32 " | %.2f ", GRANT_SLOTS, row->v, row->k,
+                row->kind, row->granted, row->judgements);
+        print_column(out, row->before);
+        fprintf(out, "| %.2f | %.2f | %s |\n", row->grant / 1e3, row->judging / 1e3,
                 row->agree ? "equal" : "DIFFERENT");
     }
 }
 
 static void print_sites(FILE *out, const struct results *results)
 {
-    fprintf(out, "| w | slots | k | site ÷ single calls | site (µs) | single calls (µs) | spread | answers |\n"
-                 "|---:|---:|---:|---:|---:|---:|---:|---|\n");
+    fprintf(out, "\n## A site\n\n%d signs in one call, against a call of the archive for each. Each has its own part "
+                 "of the slot records, with\nslots as above; they differ in id and by up to two ticks in e. Both "
+                 "answers are compared, and with doubling's.\n\n", SIGNS);
+    fprintf(out, "| w | slots | k | site ÷ single calls | ours ÷ before | site (µs) | single calls (µs) | spread "
+                 "| answers |\n"
+                 "|---:|---:|---:|---:|---:|---:|---:|---:|---|\n");
     for (size_t i = 0; i < results->sites; i++) {
         const struct site_row *row = &results->site[i];
-        fprintf(out, "| %" PRIu32 " | %" PRIu32 " | %" PRIu32 " | %.2f | %.2f | %.2f | %.2f | %s |\n", row->cell.w,
-                row->cell.slots, row->cell.k, site_ratio(row), row->site / 1e3, row->singles / 1e3, row->spread,
+        fprintf(out, "| %" PRIu32 " | %" PRIu32 " | %" PRIu32 " | %.2f ", row->cell.w, row->cell.slots, row->cell.k,
+                site_ratio(row));
+        print_column(out, row->before);
+        fprintf(out, "| %.2f | %.2f | %.2f | %s |\n", row->site / 1e3, row->singles / 1e3, row->spread,
                 row->agree ? "all equal" : "DIFFERENT");
     }
 }
 
 static void print_counts(FILE *out, const struct results *results)
 {
-    fprintf(out, "| w | slots | k | loop ÷ before | loop ÷ ours | by k: before ÷ ours | by k: loop ÷ ours "
-                 "| ours ÷ judging | loop (µs) | before (µs) | ours (µs) | ours, one strip (µs) | judging (µs) "
-                 "| spread | answers |\n"
-                 "|---:|---:|---:|---:|---:|---:|---:|---:|---:|---:|---:|---:|---:|---:|---|\n");
+    fprintf(out, "\n## Counting\n\nDrops from the half tick that judging finds. The loop is the obvious C: a byte map "
+                 "of the wheel's drops, then a\nremainder for each strip. By k is what a call takes beyond the same "
+                 "one with a single strip, – where that is\nlost in noise. Answers are compared from other half "
+                 "ticks, too.\n\n");
+    fprintf(out, "| w | slots | k | ours ÷ before | loop ÷ before | loop ÷ ours | by k: before ÷ ours "
+                 "| by k: loop ÷ ours | ours ÷ judging | loop (µs) | before (µs) | ours (µs) | ours, one strip (µs) "
+                 "| judging (µs) | spread | answers |\n"
+                 "|---:|---:|---:|---:|---:|---:|---:|---:|---:|---:|---:|---:|---:|---:|---:|---|\n");
     for (size_t i = 0; i < results->counts; i++) {
         const struct count_row *row = &results->count[i];
-        const double columns[] = {count_ratio(row, LOOP, BEFORE), count_ratio(row, LOOP, OURS),
+        const double columns[] = {row->before, count_ratio(row, LOOP, BEFORE), count_ratio(row, LOOP, OURS),
                                   by_k_ratio(row, BEFORE, OURS), by_k_ratio(row, LOOP, OURS), judging_ratio(row),
                                   row->by[LOOP].all / 1e3, row->by[BEFORE].all / 1e3, row->by[OURS].all / 1e3,
                                   row->by[OURS].one / 1e3, row->judging / 1e3, row->spread};
@@ -295,59 +403,168 @@ static void print_counts(FILE *out, const struct results *results)
     }
 }
 
-/* Ratios stand before times in every table: they are what carries over to another machine. */
-void print_report(FILE *out, const struct results *results)
+static void print_conditions(FILE *out, const struct results *results)
 {
     const char *machine = getenv("BENCH_MACHINE"), *archive = getenv("BENCH_MADE");
     const char *before = getenv("BENCH_BEFORE_MADE");
-    fprintf(out, "# Bench\n\nFP is the published Finite-Point method in the obvious C, doubling the plain form of "
-                 "doubling in C with 16-bit\ncounts, byte stage the same with bytes while counts fit them, ours the "
-                 "archive, floor clearing and reading w bytes.\nOnly ours finds the least margin as well.\n\n");
-    fprintf(out, "## Goals\n\n");
-    print_goals(out, results);
-    fprintf(out, "\n## Judging\n\nThe slots lie at an even pitch, each half of it long and moved a little; D = h is a "
-                 "turn, a third and half a\npitch, coprime to w; e lies midway between the least and the largest "
-                 "supply.\n");
-    fprintf(out, "FP takes its turn in every round, or is timed whole but once where it needs more than %.0f ms. ~ is "
-                 "FP over a\nrandom sample of its candidates, scaled up to all, where it needs more than %.0f s; "
-                 "that can be well off.\n", fp_rounds_ns / 1e6, fp_once_ns / 1e9);
-    fprintf(out, "All answers are compared; beside ~ only the sample's counts and FP's count at the answer's offset.\n"
-                 "Spread is the upper over the lower quartile of the rounds, the largest of a row: far above 1 the "
-                 "row was\ndisturbed. Before is an older archive, – where none was given.\n\n");
-    print_grid(out, results);
-    fprintf(out, "\n## Growth of ours\n\n");
-    print_growth(out, results);
-    fprintf(out, "\n## Grants\n\nAll slots are free, m = k. A judgement is of the same wheel with the granted slots "
-                 "(all, where refused).\n\n");
-    print_grants(out, results);
-    fprintf(out, "\n## A site\n\n%d signs in one call, against a call of the archive for each. They share a slot table "
-                 "made as above and differ\nin id and by up to two ticks in e. Both answers are compared, and with "
-                 "doubling's.\n\n", SIGNS);
-    print_sites(out, results);
-    fprintf(out, "\n## Counting\n\nDrops from the half tick that judging finds. The loop is the obvious C: a byte map "
-                 "of the wheel's drops, then a\nremainder for each strip. Before is an older archive, – where none "
-                 "was given. By k is what a call takes beyond the\nsame one with a single strip, – where that is lost "
-                 "in noise. Answers are compared from other half ticks, too.\n\n");
-    print_counts(out, results);
     fprintf(out, "\n## Conditions\n\n- machine: %s\n", machine != NULL ? machine : "not told");
     print_compiler(out);
     fprintf(out, "- flags: %s\n- archive: %s\n", BENCH_FLAGS, archive != NULL ? archive : "as it was built");
-    if (results->before)
-        fprintf(out, "- before: %s\n", before != NULL ? before : "as it was built");
-    fprintf(out, "- runs: medians of %d rounds of at least %.0f µs of processor time each, taking turns\n", ROUNDS,
-            batch_ns / 1e3);
-    fprintf(out, "\nbench: %zu cases, %zu differences\n",
-            results->rows + results->grants + results->sites + results->counts, differences(results));
+    if (results->before_slot_bytes > 0)
+        fprintf(out, "- before: %s; it reads slot records of %zu bytes\n",
+                before != NULL ? before : "as it was built", results->before_slot_bytes);
+    fprintf(out, "- runs: medians of %d rounds of at least %.0f µs of processor time each, taking turns; ours ÷ "
+                 "before and growth are\n  medians of the rounds' ratios\n", ROUNDS, batch_ns / 1e3);
 }
 
-/* The columns of counting come last but one; rows of all other cases have this there. */
-static const char no_count[] = ",,,,,,,,,,,,,,";
-
-static void print_field(FILE *out, int digits, double value)
+/* Ratios stand before times in every table: they are what carries over to another machine. */
+void print_report(FILE *out, const struct results *results)
 {
-    fputc(',', out);
-    if (value > 0)
-        fprintf(out, "%.*f", digits, value);
+    fprintf(out, "# Bench\n\nFP is the published Finite-Point method in the obvious C, doubling the plain form of "
+                 "doubling in C with 16-bit\ncounts, byte stage the same with bytes while counts fit them, ours the "
+                 "archive, floor clearing and reading w bytes.\nOnly ours finds the least margin as well. Before is "
+                 "an older archive on the same slots, in records as it reads\nthem; – stands where none was given."
+                 "\n\n");
+    print_goals(out, results);
+    print_grid(out, results);
+    print_growth(out, results);
+    print_boards(out, results);
+    print_grants(out, results);
+    print_sites(out, results);
+    print_counts(out, results);
+    print_conditions(out, results);
+    fprintf(out, "\nbench: %zu cases, %zu differences\n",
+            results->rows + results->boards + results->grants + results->sites + results->counts,
+            differences(results));
+}
+
+/* ---- the same for programs ---- */
+
+enum column {
+    W, SLOTS, K, ZONE_STARTS, FP_TIMED, FP_NS, DOUBLING_NS, BYTE_STAGE_NS, OURS_NS, FLOOR_NS, FP_OVER_OURS,
+    OURS_OVER_DOUBLING, SPREAD, AGAINST_W, AGAINST_SLOTS, AGAINST_K, GROWTH, JUDGEMENTS, SITE_NS, SINGLES_NS,
+    SITE_OVER_SINGLES, LOOP_NS, LOOP_ONE_NS, LOOP_BY_K_NS, BEFORE_NS, BEFORE_ONE_NS, BEFORE_BY_K_NS, OURS_ONE_NS,
+    OURS_BY_K_NS, JUDGING_NS, LOOP_OVER_BEFORE, LOOP_OVER_OURS, BY_K_BEFORE_OVER_OURS, BY_K_LOOP_OVER_OURS,
+    OURS_OVER_JUDGING, OURS_OVER_BEFORE, ALONE_NS, BOARD_OVER_ALONE, OTHER_RECORD_NS, COLUMNS
+};
+
+static const struct {
+    const char *name;
+    int digits;
+} columns[COLUMNS] = {
+    [W] = {"w", 0},
+    [SLOTS] = {"slots", 0},
+    [K] = {"k", 0},
+    [ZONE_STARTS] = {"zone_starts", 0},
+    [FP_TIMED] = {"fp_timed", 0},
+    [FP_NS] = {"fp_ns", 1},
+    [DOUBLING_NS] = {"doubling_ns", 1},
+    [BYTE_STAGE_NS] = {"byte_stage_ns", 1},
+    [OURS_NS] = {"ours_ns", 1},
+    [FLOOR_NS] = {"floor_ns", 1},
+    [FP_OVER_OURS] = {"fp_over_ours", 3},
+    [OURS_OVER_DOUBLING] = {"ours_over_doubling", 4},
+    [SPREAD] = {"spread", 3},
+    [AGAINST_W] = {"against_w", 0},
+    [AGAINST_SLOTS] = {"against_slots", 0},
+    [AGAINST_K] = {"against_k", 0},
+    [GROWTH] = {"growth", 4},
+    [JUDGEMENTS] = {"judgements", 4},
+    [SITE_NS] = {"site_ns", 1},
+    [SINGLES_NS] = {"singles_ns", 1},
+    [SITE_OVER_SINGLES] = {"site_over_singles", 4},
+    [LOOP_NS] = {"loop_ns", 1},
+    [LOOP_ONE_NS] = {"loop_one_ns", 1},
+    [LOOP_BY_K_NS] = {"loop_by_k_ns", 1},
+    [BEFORE_NS] = {"before_ns", 1},
+    [BEFORE_ONE_NS] = {"before_one_ns", 1},
+    [BEFORE_BY_K_NS] = {"before_by_k_ns", 1},
+    [OURS_ONE_NS] = {"ours_one_ns", 1},
+    [OURS_BY_K_NS] = {"ours_by_k_ns", 1},
+    [JUDGING_NS] = {"judging_ns", 1},
+    [LOOP_OVER_BEFORE] = {"loop_over_before", 4},
+    [LOOP_OVER_OURS] = {"loop_over_ours", 4},
+    [BY_K_BEFORE_OVER_OURS] = {"by_k_before_over_ours", 4},
+    [BY_K_LOOP_OVER_OURS] = {"by_k_loop_over_ours", 4},
+    [OURS_OVER_JUDGING] = {"ours_over_judging", 4},
+    [OURS_OVER_BEFORE] = {"ours_over_before", 4},
+    [ALONE_NS] = {"alone_ns", 1},
+    [BOARD_OVER_ALONE] = {"board_over_alone", 4},
+    [OTHER_RECORD_NS] = {"other_record_ns", 3},
+};
+
+struct line {
+    const char *fp_timed; /* the one column in words */
+    double at[COLUMNS];   /* 0 where a case has no such figure */
+};
+
+static void print_line(FILE *out, const struct cell *cell, struct line line)
+{
+    line.at[W] = cell->w;
+    line.at[SLOTS] = cell->slots;
+    line.at[K] = cell->k;
+    for (size_t i = 0; i < COLUMNS; i++) {
+        fputc(',', out);
+        if (i == FP_TIMED && line.fp_timed != NULL)
+            fputs(line.fp_timed, out);
+        if (line.at[i] > 0)
+            fprintf(out, "%.*f", columns[i].digits, line.at[i]);
+    }
+    fputc('\n', out);
+}
+
+static void print_csv_rows(FILE *out, const struct results *results)
+{
+    for (size_t i = 0; i < results->rows; i++) {
+        const struct row *r = &results->row[i];
+        fprintf(out, "judge");
+        print_line(out, &r->cell, (struct line){.fp_timed = way_names[r->way],
+                   .at = {[ZONE_STARTS] = r->zones, [FP_NS] = r->fp, [DOUBLING_NS] = r->doubling,
+                          [BYTE_STAGE_NS] = r->bytewise, [OURS_NS] = r->ours, [FLOOR_NS] = r->floor,
+                          [FP_OVER_OURS] = fp_ratio(r), [OURS_OVER_DOUBLING] = doubling_ratio(r),
+                          [SPREAD] = r->spread, [OURS_OVER_BEFORE] = r->before}});
+    }
+    for (size_t i = 0; i < results->growths; i++) {
+        const struct growth *g = &results->growth[i];
+        fprintf(out, "growth in %s", growth_names[g->in]);
+        print_line(out, &g->large, (struct line){
+                   .at = {[AGAINST_W] = g->small.w, [AGAINST_SLOTS] = g->small.slots, [AGAINST_K] = g->small.k,
+                          [GROWTH] = g->ratio}});
+    }
+}
+
+static void print_csv_boards(FILE *out, const struct results *results)
+{
+    for (size_t i = 0; i < results->boards; i++) {
+        const struct board_row *b = &results->board[i];
+        fprintf(out, "board of %u", FIDDLEQUILL_SLOTS_MAX);
+        print_line(out, &b->cell, (struct line){
+                   .at = {[OURS_NS] = b->board, [SPREAD] = b->spread, [AGAINST_W] = b->beside.w,
+                          [AGAINST_SLOTS] = b->beside.slots, [AGAINST_K] = b->beside.k, [ALONE_NS] = b->alone,
+                          [BOARD_OVER_ALONE] = board_ratio(b), [OTHER_RECORD_NS] = other_record(b)}});
+    }
+}
+
+static void print_csv_grants(FILE *out, const struct results *results)
+{
+    for (size_t i = 0; i < results->grants; i++) {
+        const struct grant_row *g = &results->grant[i];
+        const struct cell cell = {GRANT_SLOTS * g->v, GRANT_SLOTS, g->k};
+        fprintf(out, "grant of %s", g->kind);
+        print_line(out, &cell, (struct line){
+                   .at = {[OURS_NS] = g->grant, [JUDGEMENTS] = g->judgements, [OURS_OVER_BEFORE] = g->before}});
+    }
+}
+
+static void print_csv_sites(FILE *out, const struct results *results)
+{
+    for (size_t i = 0; i < results->sites; i++) {
+        const struct site_row *s = &results->site[i];
+        fprintf(out, "site of %d", SIGNS);
+        print_line(out, &s->cell, (struct line){
+                   .at = {[SPREAD] = s->spread, [SITE_NS] = s->site, [SINGLES_NS] = s->singles,
+                          [SITE_OVER_SINGLES] = site_ratio(s), [OURS_OVER_BEFORE] = s->before}});
+    }
 }
 
 static void print_csv_counts(FILE *out, const struct results *results)
@@ -355,52 +572,29 @@ static void print_csv_counts(FILE *out, const struct results *results)
     for (size_t i = 0; i < results->counts; i++) {
         const struct count_row *c = &results->count[i];
         const struct count_times *loop = &c->by[LOOP], *before = &c->by[BEFORE], *ours = &c->by[OURS];
-        const double times[] = {loop->all, loop->one, loop->by_k, before->all, before->one, before->by_k, ours->one,
-                                ours->by_k, c->judging};
-        const double ratios[] = {count_ratio(c, LOOP, BEFORE), count_ratio(c, LOOP, OURS),
-                                 by_k_ratio(c, BEFORE, OURS), by_k_ratio(c, LOOP, OURS), judging_ratio(c)};
-        fprintf(out, "count,%" PRIu32 ",%" PRIu32 ",%" PRIu32 ",,,,,,%.1f,,,,%.3f,,,,,,,,", c->cell.w, c->cell.slots,
-                c->cell.k, ours->all, c->spread);
-        for (size_t j = 0; j < sizeof times / sizeof *times; j++)
-            print_field(out, 1, times[j]);
-        for (size_t j = 0; j < sizeof ratios / sizeof *ratios; j++)
-            print_field(out, 4, ratios[j]);
-        fputs(",\n", out);
+        fprintf(out, "count");
+        print_line(out, &c->cell, (struct line){
+                   .at = {[OURS_NS] = ours->all, [SPREAD] = c->spread, [LOOP_NS] = loop->all,
+                          [LOOP_ONE_NS] = loop->one, [LOOP_BY_K_NS] = loop->by_k, [BEFORE_NS] = before->all,
+                          [BEFORE_ONE_NS] = before->one, [BEFORE_BY_K_NS] = before->by_k, [OURS_ONE_NS] = ours->one,
+                          [OURS_BY_K_NS] = ours->by_k, [JUDGING_NS] = c->judging,
+                          [LOOP_OVER_BEFORE] = count_ratio(c, LOOP, BEFORE),
+                          [LOOP_OVER_OURS] = count_ratio(c, LOOP, OURS),
+                          [BY_K_BEFORE_OVER_OURS] = by_k_ratio(c, BEFORE, OURS),
+                          [BY_K_LOOP_OVER_OURS] = by_k_ratio(c, LOOP, OURS),
+                          [OURS_OVER_JUDGING] = judging_ratio(c), [OURS_OVER_BEFORE] = c->before}});
     }
 }
 
 void print_csv(FILE *out, const struct results *results)
 {
-    fprintf(out, "case,w,slots,k,zone_starts,fp_timed,fp_ns,doubling_ns,byte_stage_ns,ours_ns,floor_ns,"
-                 "fp_over_ours,ours_over_doubling,spread,against_w,against_slots,against_k,growth,judgements,site_ns,"
-                 "singles_ns,site_over_singles,loop_ns,loop_one_ns,loop_by_k_ns,before_ns,before_one_ns,before_by_k_ns,"
-                 "ours_one_ns,ours_by_k_ns,judging_ns,loop_over_before,loop_over_ours,by_k_before_over_ours,"
-                 "by_k_loop_over_ours,ours_over_judging,ours_over_before\n");
-    for (size_t i = 0; i < results->rows; i++) {
-        const struct row *r = &results->row[i];
-        fprintf(out, "judge,%" PRIu32 ",%" PRIu32 ",%" PRIu32 ",%" PRIu32 ",%s,", r->cell.w, r->cell.slots, r->cell.k,
-                r->zones, way_names[r->way]);
-        fprintf(out, "%.1f,%.1f,%.1f,%.1f,%.1f,%.3f,%.4f,%.3f,,,,,,,,%s", r->fp, r->doubling, r->bytewise, r->ours,
-                r->floor, fp_ratio(r), doubling_ratio(r), r->spread, no_count);
-        print_field(out, 4, r->before);
-        fputc('\n', out);
-    }
-    for (size_t i = 0; i < results->growths; i++) {
-        const struct growth *g = &results->growth[i];
-        fprintf(out, "growth in %s,", growth_names[g->in]);
-        fprintf(out, "%" PRIu32 ",%" PRIu32 ",%" PRIu32, g->large.w, g->large.slots, g->large.k);
-        fprintf(out, ",,,,,,,,,,,%" PRIu32 ",%" PRIu32 ",%" PRIu32 ",%.4f,,,,%s,\n", g->small.w, g->small.slots,
-                g->small.k, g->ratio, no_count);
-    }
-    for (size_t i = 0; i < results->grants; i++) {
-        const struct grant_row *g = &results->grant[i];
-        fprintf(out, "grant of %s,%" PRIu32 ",%d,%" PRIu32 ",,,,,,%.1f,,,,,,,,,%.4f,,,%s,\n", g->kind,
-                GRANT_SLOTS * g->v, GRANT_SLOTS, g->k, g->grant, g->judgements, no_count);
-    }
-    for (size_t i = 0; i < results->sites; i++) {
-        const struct site_row *s = &results->site[i];
-        fprintf(out, "site of %d,%" PRIu32 ",%" PRIu32 ",%" PRIu32 ",,,,,,,,,,%.3f,,,,,,%.1f,%.1f,%.4f%s,\n", SIGNS,
-                s->cell.w, s->cell.slots, s->cell.k, s->spread, s->site, s->singles, site_ratio(s), no_count);
-    }
+    fprintf(out, "case");
+    for (size_t i = 0; i < COLUMNS; i++)
+        fprintf(out, ",%s", columns[i].name);
+    fputc('\n', out);
+    print_csv_rows(out, results);
+    print_csv_boards(out, results);
+    print_csv_grants(out, results);
+    print_csv_sites(out, results);
     print_csv_counts(out, results);
 }

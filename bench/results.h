@@ -7,7 +7,16 @@
 #include <stdbool.h>
 #include <stdio.h>
 
-enum { ROUNDS = 15, GRANT_SLOTS = 64, ROWS_MAX = 60, GROWTHS_MAX = 32, GRANTS_MAX = 36, SITES_MAX = 6, COUNTS_MAX = 9 };
+enum {
+    ROUNDS = 15,
+    GRANT_SLOTS = 64,
+    ROWS_MAX = 60,
+    GROWTHS_MAX = 32,
+    BOARDS_MAX = 8,
+    GRANTS_MAX = 36,
+    SITES_MAX = 6,
+    COUNTS_MAX = 9
+};
 
 static const double batch_ns = 200e3;     /* one timing lasts at least this long */
 static const double fp_rounds_ns = 100e6; /* FP up to here takes its turn in every round */
@@ -22,7 +31,7 @@ struct row {
     uint32_t zones;
     double fp, doubling, bytewise, ours, floor; /* ns */
     double spread;                              /* the largest of its contenders' quartile ratios */
-    double before;                              /* ours over an older archive; 0 where none was given */
+    double before;                              /* ours over an older archive, here as below; 0 where none was given */
     enum fp_way way;
     bool agree;
 };
@@ -36,12 +45,24 @@ struct growth {
     double ratio;
 };
 
+/*
+ * A task on a board of FIDDLEQUILL_SLOTS_MAX records against a table that it owns whole: its own records alone or,
+ * where all the board is its own, another task's. The cells have the slots that a task owns.
+ */
+struct board_row {
+    struct cell cell, beside;
+    double board, alone; /* ns */
+    double spread;
+    bool agree;
+};
+
 /* A grant against one judging of its wheel. */
 struct grant_row {
     const char *kind;
     uint32_t v, k;
     uint32_t number, granted;
     double judgements, grant, judging; /* a ratio, then ns */
+    double before;
     bool agree;
 };
 
@@ -49,7 +70,7 @@ struct grant_row {
 struct site_row {
     struct cell cell;
     double site, singles; /* ns */
-    double spread;
+    double spread, before;
     bool agree;
 };
 
@@ -66,15 +87,16 @@ struct count_row {
     struct cell cell;
     struct count_times by[COUNTERS];
     double judging; /* ns */
-    double spread;
+    double spread, before;
     bool agree;
 };
 
 struct results {
-    size_t rows, growths, grants, sites, counts;
-    bool before; /* an older archive was given */
+    size_t rows, growths, boards, grants, sites, counts;
+    size_t before_slot_bytes; /* of an older archive's slot record; 0 where none was given */
     struct row row[ROWS_MAX];
     struct growth growth[GROWTHS_MAX];
+    struct board_row board[BOARDS_MAX];
     struct grant_row grant[GRANTS_MAX];
     struct site_row site[SITES_MAX];
     struct count_row count[COUNTS_MAX];

@@ -36,41 +36,43 @@ uint32_t period_for(uint32_t w, uint32_t slots)
 
 void put_task(struct workload *load, uint32_t e, uint32_t h, uint32_t m)
 {
-    const uint32_t fields[] = {1, load->cell.w, e, h, h, m, load->cell.k};
+    const uint32_t fields[] = {PAINTER, load->cell.w, e, h, h, m, load->cell.k};
     for (size_t i = 0; i < sizeof fields / sizeof *fields; i++)
         put_number(load->task + 4 * i, fields[i], 4);
     put_number(load->task + 28, 0, 2);
     put_number(load->task + 30, (uint32_t)(load->slots_len / FIDDLEQUILL_SLOT_BYTES), 2);
 }
 
-void put_slot(struct workload *load, uint32_t start, uint32_t end)
+void put_slot(struct workload *load, uint32_t start, uint32_t end, uint32_t owner)
 {
-    put_number(load->slots + load->slots_len, start, 4);
-    put_number(load->slots + load->slots_len + 4, end, 4);
+    uint8_t *slot = load->slots + load->slots_len;
+    put_number(slot, start, 4);
+    put_number(slot + 4, end, 4);
+    put_number(slot + OWNER_AT, owner, 2);
+    put_number(slot + SPARE_AT, 0, 2);
     load->slots_len += FIDDLEQUILL_SLOT_BYTES;
 }
 
-/* Slots at an even pitch, each about half of it long and moved a little. */
-static void put_slots(struct workload *load)
+/* Slots at an even pitch, each about half of it long, but a tick at least, and moved a little. */
+static void put_slots(struct workload *load, uint32_t from, uint32_t to, uint32_t n, uint32_t owner)
 {
     uint64_t state = load->cell.w * 4099u + load->cell.slots;
-    for (uint32_t i = 0; i < load->cell.slots; i++) {
-        uint32_t from = (uint32_t)((uint64_t)load->cell.w * i / load->cell.slots);
-        uint32_t pitch = (uint32_t)((uint64_t)load->cell.w * (i + 1) / load->cell.slots) - from;
-        uint32_t start = from + (uint32_t)(draw(&state) % (pitch / 4 + 1));
-        put_slot(load, start, start + pitch / 2);
+    for (uint32_t i = 0; i < n; i++) {
+        uint32_t at = from + (to - from) * i / n;
+        uint32_t pitch = from + (to - from) * (i + 1) / n - at;
+        uint32_t start = at + (uint32_t)(draw(&state) % (pitch / 4 + 1));
+        put_slot(load, start, start + (pitch > 1 ? pitch / 2 : 1), owner);
     }
 }
 
 static void open_plan(struct workload *load)
 {
-    struct plan plan;
-    uint32_t number = plan_read(&plan, load->task, sizeof load->task, load->slots, load->slots_len);
+    uint32_t number = plan_read(&load->fp.plan, load->task, sizeof load->task, load->slots, load->slots_len);
     if (number != FIDDLEQUILL_OK) {
         fprintf(stderr, "bench: a workload is refused: %s\n", fiddlequill_meaning(number));
         exit(2);
     }
-    fp_open(&load->fp, &plan);
+    fp_open(&load->fp);
 }
 
 /* The need lies midway between the least and the largest supply: zones start and strips drop. */
@@ -79,12 +81,55 @@ void make_workload(struct workload *load, struct cell cell)
     uint32_t h = period_for(cell.w, cell.slots), least, largest;
     load->cell = cell;
     load->slots_len = 0;
-    put_slots(load);
+    put_slots(load, 0, cell.w, cell.slots, PAINTER);
     put_task(load, 1, h, cell.k / 2);
     open_plan(load);
     fp_supplies(&load->fp, &least, &largest);
     put_task(load, (least + largest + 1) / 2, h, cell.k / 2);
     open_plan(load);
+}
+
+static uint32_t ticks_outside(const struct plan *plan)
+{
+    uint32_t ticks = plan->w;
+    for (uint32_t i = 0; i < plan->slots; i++)
+        ticks -= plan->end[i] - plan->start[i];
+    return ticks;
+}
+
+/* Each gap gets records by its length and has an owner of its own. */
+void make_board(struct workload *board, const struct workload *own)
+{
+    const struct plan *plan = &own->fp.plan;
+    const uint32_t others = FIDDLEQUILL_SLOTS_MAX - plan->slots, outside = ticks_outside(plan);
+    uint32_t from = 0, passed = 0, put = 0;
+    board->cell = own->cell;
+    board->slots_len = 0;
+    for (uint32_t i = 0; i <= plan->slots; i++) {
+        uint32_t to = i < plan->slots ? plan->start[i] : plan->w;
+        passed += to - from;
+        put_slots(board, from, to, others * passed / outside - put, PAINTER + 1 + i);
+        put = others * passed / outside;
+        if (i < plan->slots) {
+            put_slot(board, plan->start[i], plan->end[i], PAINTER);
+            from = plan->end[i];
+        }
+    }
+    put_task(board, plan->e, plan->h, plan->m);
+    open_plan(board);
+}
+
+static void put_sign(struct site *site, const struct workload *load, uint32_t i)
+{
+    const uint32_t id = PAINTER + i;
+    uint8_t *task = site->tasks + i * FIDDLEQUILL_TASK_BYTES, *slots = site->slots + site->slots_len;
+    memcpy(task, load->task, FIDDLEQUILL_TASK_BYTES);
+    put_number(task, id, 4);
+    put_number(task + 28, (uint32_t)(site->slots_len / FIDDLEQUILL_SLOT_BYTES), 2);
+    memcpy(slots, load->slots, load->slots_len);
+    for (size_t at = 0; at < load->slots_len; at += FIDDLEQUILL_SLOT_BYTES)
+        put_number(slots + at + OWNER_AT, id, 2);
+    site->slots_len += load->slots_len;
 }
 
 /* A need at or beyond the ends of the supply would be settled without looking for the worst, so none goes there. */
@@ -96,13 +141,18 @@ void make_site(struct site *site, struct cell cell)
     fp_supplies(&load.fp, &least, &largest);
     site->cell = cell;
     site->least = least;
-    site->slots_len = load.slots_len;
-    memcpy(site->slots, load.slots, load.slots_len);
+    site->slots_len = 0;
     for (uint32_t i = 0; i < SIGNS; i++) {
-        uint8_t *task = site->tasks + i * FIDDLEQUILL_TASK_BYTES;
         uint32_t e = load.fp.plan.e + i % 3;
-        memcpy(task, load.task, FIDDLEQUILL_TASK_BYTES);
-        put_number(task, i + 1, 4);
-        put_number(task + 8, e <= largest ? e : largest, 4);
+        put_sign(site, &load, i);
+        put_number(site->tasks + i * FIDDLEQUILL_TASK_BYTES + 8, e <= largest ? e : largest, 4);
     }
+}
+
+size_t cut_slots(uint8_t *slots, size_t slots_len, size_t bytes)
+{
+    const size_t records = slots_len / FIDDLEQUILL_SLOT_BYTES;
+    for (size_t i = 0; i < records; i++)
+        memmove(slots + i * bytes, slots + i * FIDDLEQUILL_SLOT_BYTES, bytes);
+    return records * bytes;
 }

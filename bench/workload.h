@@ -8,6 +8,9 @@ struct cell {
     uint32_t w, slots, k;
 };
 
+/* The id of a workload's task, and the owner of its slots. */
+enum { PAINTER = 1 };
+
 struct workload {
     struct cell cell;
     uint8_t task[FIDDLEQUILL_TASK_BYTES];
@@ -18,11 +21,11 @@ struct workload {
 
 enum { SIGNS = 100 };
 
-/* The signs of a site: tasks on one wheel and one slot table that differ in id and, a little, in their need. */
+/* The signs of a site: tasks on one wheel, each with its own part of the slots, that differ a little in their need. */
 struct site {
     struct cell cell;
     uint8_t tasks[SIGNS * FIDDLEQUILL_TASK_BYTES];
-    uint8_t slots[FIDDLEQUILL_SLOTS_MAX * FIDDLEQUILL_SLOT_BYTES];
+    uint8_t slots[SIGNS * FIDDLEQUILL_SLOTS_MAX * FIDDLEQUILL_SLOT_BYTES];
     size_t slots_len;
     uint32_t least; /* supply at any tick, the same for all signs */
 };
@@ -34,12 +37,16 @@ uint64_t draw(uint64_t *state);
 uint32_t period_for(uint32_t w, uint32_t slots);
 
 /* Appends a slot; then writes a task over all slots so far, with D = h and the cell's w and k. */
-void put_slot(struct workload *load, uint32_t start, uint32_t end);
+void put_slot(struct workload *load, uint32_t start, uint32_t end, uint32_t owner);
 void put_task(struct workload *load, uint32_t e, uint32_t h, uint32_t m);
 
 /* The task of a cell; exits when the baselines' reader refuses it. */
 void make_workload(struct workload *load, struct cell cell);
+/* The same task on a board of FIDDLEQUILL_SLOTS_MAX records, where other owners have slots in all the gaps. */
+void make_board(struct workload *board, const struct workload *own);
 /* A site of tasks around the cell's. */
 void make_site(struct site *site, struct cell cell);
+/* Cuts each slot record down to its first `bytes` bytes, and gives the length of them all. */
+size_t cut_slots(uint8_t *slots, size_t slots_len, size_t bytes);
 
 #endif

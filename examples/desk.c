@@ -6,10 +6,11 @@
  *
  * FOLDER holds tasks.bin and slots.bin (`records make FOLDER` makes them). Of a
  * task that is answered it says how much more a strip may need before one drops,
- * or how much some strip lacks. For a task that isn't firm it asks whether free,
- * equal slots would do; for one that is refused because of its table it says
- * what stands in which record of which file. Records are counted from 0, and so
- * are the slots of a task.
+ * or how much some strip lacks, and, where others have slots of its board, too,
+ * how much of it is its own. For a task that isn't firm it asks whether equal
+ * slots would do that no other owner has; for one that is refused because of its
+ * board it says what stands in which record of which file, and whose slot that
+ * is. Records are counted from 0, and so are the slots of a board.
  * The exit status is 0 when every task got an answer, refused ones included.
  */
 #include "bytes.h"
@@ -20,7 +21,6 @@
 #include <stdbool.h>
 #include <stdio.h>
 #include <stdlib.h>
-#include <string.h>
 
 struct site {
     struct file tasks, slots;
@@ -29,6 +29,10 @@ struct site {
 /* The fields of a task record that the desk speaks of. */
 struct task {
     uint32_t id, w, e, D, h, m, k, first, count;
+};
+
+struct slot {
+    uint32_t start, end, owner, spare[2];
 };
 
 struct answer {
@@ -48,6 +52,18 @@ static struct task task_of(const uint8_t *bytes)
         .k = get_number(bytes + 24, 4),
         .first = get_number(bytes + 28, 2),
         .count = get_number(bytes + 30, 2),
+    };
+}
+
+/* Slot record i of the site. */
+static struct slot slot_of(const struct site *site, uint32_t i)
+{
+    const uint8_t *bytes = site->slots.bytes + (size_t)i * FIDDLEQUILL_SLOT_BYTES;
+    return (struct slot){
+        .start = get_number(bytes, 4),
+        .end = get_number(bytes + 4, 4),
+        .owner = get_number(bytes + 8, 2),
+        .spare = {bytes[10], bytes[11]},
     };
 }
 
@@ -149,6 +165,22 @@ static void tell_lack(const struct answer *answer)
     printf("%s\n", answer->firm ? ", but no more drop than may" : "");
 }
 
+/* A task that has its board to itself isn't told so. */
+static void tell_share(const struct site *site, const struct task *task)
+{
+    uint32_t slots = 0, ticks = 0;
+    for (uint32_t i = 0; i < task->count; i++) {
+        struct slot slot = slot_of(site, task->first + i);
+        if (slot.owner == task->id) {
+            slots++;
+            ticks += slot.end - slot.start;
+        }
+    }
+    if (slots < task->count)
+        printf("  of the board's slots it has %" PRIu32 " of %" PRIu32 ", of the ticks %" PRIu32 " of %" PRIu32 "\n",
+               slots, task->count, ticks, task->w);
+}
+
 /* The largest number of equal slots that w ticks can be cut into. */
 static uint32_t equal_slots(uint32_t w)
 {
@@ -158,14 +190,28 @@ static uint32_t equal_slots(uint32_t w)
     return n;
 }
 
-/* Were the task's wheel cut into equal slots, all free: how many would it take? */
-static void offer_grant(const struct task *task)
+/* Whether another owner's slot of the board has some of the time from start to end. */
+static bool is_taken(const struct site *site, const struct task *task, uint32_t start, uint32_t end)
+{
+    for (uint32_t i = 0; i < task->count; i++) {
+        struct slot slot = slot_of(site, task->first + i);
+        if (slot.owner != task->id && slot.start < end && start < slot.end)
+            return true;
+    }
+    return false;
+}
+
+/* Were the task's wheel cut into equal slots, free where no other owner is: how many would it take? */
+static void offer_grant(const struct site *site, const struct task *task)
 {
     uint8_t marks[FIDDLEQUILL_GRANT_SLOTS_MAX];
-    uint32_t n = equal_slots(task->w), v = task->w / n;
-    memset(marks, 1, sizeof marks);
+    uint32_t n = equal_slots(task->w), v = task->w / n, free_slots = 0;
+    for (uint32_t i = 0; i < n; i++) {
+        marks[i] = is_taken(site, task, i * v, (i + 1) * v) ? 0 : 1;
+        free_slots += marks[i];
+    }
     uint64_t packed = fiddlequill_grant(marks, n, v, task->e, task->D, task->h, task->m, task->k);
-    printf("  with %" PRIu32 " free slots of ", n);
+    printf("  with %" PRIu32 " free %s of ", free_slots, free_slots == 1 ? "slot" : "slots");
     print_ticks(2 * v);
     printf(": ");
     if (fiddlequill_number(packed) == FIDDLEQUILL_OK)
@@ -174,31 +220,33 @@ static void offer_grant(const struct task *task)
         printf("%s\n", fiddlequill_meaning(fiddlequill_number(packed)));
 }
 
-static const uint8_t *slot_record(const struct site *site, uint32_t i)
-{
-    return site->slots.bytes + (size_t)i * FIDDLEQUILL_SLOT_BYTES;
-}
-
-/* A bad slot's record, and what it clashes with where that isn't in it. */
+/* A bad slot's record, whose slot it is, and what it clashes with. */
 static void point_at_slot(const struct site *site, const struct task *task, uint32_t number, uint32_t place)
 {
     uint32_t i = task->first + place;
-    const uint8_t *slot = slot_record(site, i);
-    printf("  %s, record %" PRIu32 " (slot %" PRIu32 " of the task): ", site->slots.path, i, place);
-    printf("from %" PRIu32 " to %" PRIu32, get_number(slot, 4), get_number(slot + 4, 4));
+    struct slot slot = slot_of(site, i);
+    printf("  %s, record %" PRIu32 " (slot %" PRIu32 " of the board, owner %" PRIu32 "): ", site->slots.path, i, place,
+           slot.owner);
+    printf("from %" PRIu32 " to %" PRIu32, slot.start, slot.end);
     if (number == FIDDLEQUILL_SLOT_PAST_WHEEL)
         printf(", while w is %" PRIu32, task->w);
-    if (number == FIDDLEQUILL_EARLY_SLOT) /* so it isn't the task's first */
-        printf(", while slot %" PRIu32 " lasts to %" PRIu32, place - 1, get_number(slot_record(site, i - 1) + 4, 4));
+    if (number == FIDDLEQUILL_EARLY_SLOT) { /* so it isn't the board's first */
+        struct slot before = slot_of(site, i - 1);
+        printf(", while slot %" PRIu32 ", owner %" PRIu32 ", lasts to %" PRIu32, place - 1, before.owner, before.end);
+    }
+    if (number == FIDDLEQUILL_SPARE_USED)
+        printf(", with spare bytes %" PRIu32 " and %" PRIu32, slot.spare[0], slot.spare[1]);
     printf("\n");
 }
 
-/* A task record whose fields make no table, before any slot is looked at. */
+/* A task record whose fields make no board, before any slot is looked at. */
 static void point_at_task(const struct site *site, const uint8_t *record, uint32_t number)
 {
     struct task task = task_of(record);
     printf("  %s, record %zu: ", site->tasks.path, (size_t)(record - site->tasks.bytes) / FIDDLEQUILL_TASK_BYTES);
-    if (number == FIDDLEQUILL_BAD_WHEEL)
+    if (number == FIDDLEQUILL_BAD_ID)
+        printf("id %" PRIu32 "\n", task.id);
+    else if (number == FIDDLEQUILL_BAD_WHEEL)
         printf("w %" PRIu32 "\n", task.w);
     else if (number == FIDDLEQUILL_MANY_SLOTS)
         printf("count %" PRIu32 "\n", task.count);
@@ -207,19 +255,19 @@ static void point_at_task(const struct site *site, const uint8_t *record, uint32
                site->slots.path, site->slots.len / FIDDLEQUILL_SLOT_BYTES);
 }
 
-/* What the table alone is refused with: 6 to 10 are about the task's other numbers. */
-static uint32_t number_of_table(uint32_t number)
+/* What the board alone is refused with: 6 to 10 are about the task's other numbers. */
+static uint32_t number_of_board(uint32_t number)
 {
     return number >= FIDDLEQUILL_BAD_NEED && number <= FIDDLEQUILL_BAD_PAINTED ? FIDDLEQUILL_OK : number;
 }
 
 /* Asking which slot is bad must give the number that judging gave. */
-static int tell_table(const struct site *site, const uint8_t *record, const struct answer *answer)
+static int tell_board(const struct site *site, const uint8_t *record, const struct answer *answer)
 {
     struct task task = task_of(record);
     uint64_t packed = fiddlequill_which_slot(record, FIDDLEQUILL_TASK_BYTES, site->slots.bytes, site->slots.len);
     uint32_t number = fiddlequill_number(packed);
-    if (number != number_of_table(answer->number)) {
+    if (number != number_of_board(answer->number)) {
         fprintf(stderr, "%s: task %" PRIu32 ": asking which slot is bad gives refusal %" PRIu32, site->tasks.path,
                 task.id, number);
         fprintf(stderr, ", judging gave %" PRIu32 "\n", answer->number);
@@ -239,7 +287,7 @@ static int tell_one(const struct site *site, const uint8_t *record, const uint8_
     if (answer.number != FIDDLEQUILL_OK) {
         printf("task %" PRIu32 ": refused with %" PRIu32 ", %s\n", task.id, answer.number,
                fiddlequill_meaning(answer.number));
-        return tell_table(site, record, &answer);
+        return tell_board(site, record, &answer);
     }
     print_verdict(&task, &answer);
     if (recount(site, record, &answer) != 0 || tell_first(site, record, &answer) != 0)
@@ -248,8 +296,9 @@ static int tell_one(const struct site *site, const uint8_t *record, const uint8_
         tell_lack(&answer);
     else
         tell_growth(answer.margin);
+    tell_share(site, &task);
     if (!answer.firm)
-        offer_grant(&task);
+        offer_grant(site, &task);
     return 0;
 }
 

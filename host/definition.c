@@ -43,7 +43,7 @@ uint32_t refusal_of_sizes(size_t task_len, size_t slots_len)
     return task_len != TASK_BYTES || slots_len % SLOT_BYTES != 0 ? 1 : 0;
 }
 
-/* The record before `first` is nobody's previous slot. */
+/* The previous slot is the record before, whoever owns it; the record before `first` is nobody's. */
 uint32_t refusal_of_slot(const struct task *task, const uint8_t *slots, uint32_t place)
 {
     const uint8_t *slot = slots + (size_t)(task->first + place) * SLOT_BYTES;
@@ -54,19 +54,23 @@ uint32_t refusal_of_slot(const struct task *task, const uint8_t *slots, uint32_t
         return 16;
     if (place > 0 && start < get_number(slot - SLOT_BYTES + 4, 4))
         return 17;
+    if (get_number(slot + SPARE_AT, 2) != 0)
+        return 18;
     return 0;
 }
 
-/* A refusal and the place of the slot it is about, counted from the task's first; 0 where it is about none. */
+/* A refusal and the place of the slot it is about, counted from the part's first; 0 where it is about none. */
 struct trouble {
     uint32_t number, place;
 };
 
-/* Refusals 3, 4 and 14 to 17; the first bad slot decides. */
+/* Refusals 3, 19, 4 and 14 to 18; the first bad slot decides. */
 static struct trouble trouble_of_table(const struct task *task, const uint8_t *slots, size_t slots_len)
 {
     if (task->first + task->count > slots_len / SLOT_BYTES)
         return (struct trouble){3, 0};
+    if (task->id > ID_MAX)
+        return (struct trouble){19, 0};
     if (task->w == 0 || task->w > WHEEL_MAX)
         return (struct trouble){4, 0};
     if (task->count > SLOTS_MAX)
@@ -104,7 +108,7 @@ uint32_t refusal_of_task(const uint8_t *bytes, const uint8_t *slots, size_t slot
 
 uint32_t refusal_of_marks(const uint8_t *marks, uint64_t n, uint64_t v)
 {
-    if (n == 0 || n > SLOTS_MAX || v == 0 || v > WHEEL_MAX || n * v > WHEEL_MAX)
+    if (n == 0 || n > GRANT_SLOTS_MAX || v == 0 || v > WHEEL_MAX || n * v > WHEEL_MAX)
         return 12;
     for (uint64_t i = 0; i < n; i++)
         if (marks[i] > 1)
@@ -114,12 +118,15 @@ uint32_t refusal_of_marks(const uint8_t *marks, uint64_t n, uint64_t v)
 
 /* ---- rules 1 to 7 ---- */
 
+/* The slots whose owner is the task's id. */
 void wheel_of_task(struct wheel *wheel, const struct task *task, const uint8_t *slots)
 {
     wheel->w = task->w;
     memset(wheel->usable, 0, task->w);
     for (uint32_t i = 0; i < task->count; i++) {
         const uint8_t *slot = slots + (size_t)(task->first + i) * SLOT_BYTES;
+        if (get_number(slot + OWNER_AT, 2) != task->id)
+            continue;
         uint32_t end = get_number(slot + 4, 4);
         for (uint32_t tick = get_number(slot, 4); tick < end; tick++)
             wheel->usable[tick] = 1;
@@ -399,7 +406,7 @@ static bool is_firm(const uint8_t *pick, size_t n, uint64_t v, const struct stri
 /* Takes one more free slot each time; what is tried is a copy, so a refusal moves no mark. */
 uint64_t definition_grant(uint8_t *marks, size_t n, uint64_t v, const struct strips *strips)
 {
-    uint8_t pick[SLOTS_MAX] = {0};
+    uint8_t pick[GRANT_SLOTS_MAX] = {0};
     uint32_t number = refusal_of_marks(marks, n, v);
     if (number == 0)
         number = refusal_of_strips(strips);
@@ -427,7 +434,7 @@ bool some_set_is_firm(const uint8_t *marks, size_t n, uint64_t v, const struct s
     for (size_t i = 0; i < n; i++)
         free_slots += marks[i] == 1;
     for (uint32_t set = 0; set < 1u << free_slots; set++) {
-        uint8_t pick[SLOTS_MAX] = {0};
+        uint8_t pick[GRANT_SLOTS_MAX] = {0};
         uint32_t members = set;
         for (size_t i = 0; i < n; i++)
             if (marks[i] == 1) {

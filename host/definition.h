@@ -11,12 +11,17 @@
 
 enum {
     WHEEL_MAX = 16384,
-    SLOTS_MAX = 64,
+    SLOTS_MAX = 512,
+    GRANT_SLOTS_MAX = 64,
+    ID_MAX = 65535,
     NEED_MAX = 1000000,
     PERIOD_MAX = 1000000,
     STRIPS_MAX = 1024,
     TASK_BYTES = 32,
-    SLOT_BYTES = 8,
+    FIRST_AT = 28, /* where a task record's first begins, and its count behind that */
+    SLOT_BYTES = 12,
+    OWNER_AT = 8,  /* where a slot record's owner begins */
+    SPARE_AT = 10, /* and its two spare bytes */
     ANSWER_BYTES = 20,
     MARGIN_AT = 16, /* where the least margin, the last field, begins in an answer record */
     Q_MAX = 12 /* the finest cells tried are twelfths of a tick */
@@ -32,7 +37,7 @@ struct strips {
     uint64_t e, D, h, m, k;
 };
 
-/* One turn of the wheel: is the tick inside a slot? */
+/* One turn of the wheel: is the tick inside a slot of the task's? */
 struct wheel {
     uint32_t w;
     uint8_t usable[WHEEL_MAX];
@@ -56,10 +61,10 @@ struct task task_of_bytes(const uint8_t *bytes);
 void task_to_bytes(const struct task *task, uint8_t *bytes);
 struct strips strips_of_task(const struct task *task);
 
-/* Refusals 1, and 3, 4, 14, slot by slot 15 to 17, then 6 to 10 of a task with its slots; 2 is left to judging. */
+/* Refusals 1, and 3, 19, 4, 14, slot by slot 15 to 18, then 6 to 10 of a task with its slots; 2 is left to judging. */
 uint32_t refusal_of_sizes(size_t task_len, size_t slots_len);
 uint32_t refusal_of_task(const uint8_t *task, const uint8_t *slots, size_t slots_len);
-/* Refusals 15 to 17 of a task's slot, counted from its first, whatever the other slots are like. */
+/* Refusals 15 to 18 of the slot at a place of the task's part, whoever owns it and whatever the others are like. */
 uint32_t refusal_of_slot(const struct task *task, const uint8_t *slots, uint32_t place);
 uint32_t refusal_of_strips(const struct strips *strips);
 uint32_t refusal_of_marks(const uint8_t *marks, uint64_t n, uint64_t v);
@@ -82,7 +87,7 @@ uint32_t definition_judge(const uint8_t *task, size_t task_len, const uint8_t *s
                           uint8_t *reply, size_t reply_len, struct verdict *verdict);
 uint64_t definition_count(const uint8_t *task, size_t task_len, const uint8_t *slots, size_t slots_len,
                           uint64_t offset);
-/* The place of the first bad slot beside 15 to 17; the strips aren't looked at. */
+/* The place of the first bad slot beside 15 to 18; the strips aren't looked at. */
 uint64_t definition_which_slot(const uint8_t *task, size_t task_len, const uint8_t *slots, size_t slots_len);
 uint64_t definition_supply(const uint8_t *task, size_t task_len, const uint8_t *slots, size_t slots_len,
                            uint64_t offset);

@@ -1,6 +1,6 @@
 /*
- * docs/RULES.md, "Cases by hand" and "The printed sheet"; margins; strips that go round a small wheel; slot tables with
- * their first bad slot; see hand.h.
+ * docs/RULES.md, "Cases by hand" and "The printed sheet"; margins; strips that go round a small wheel; boards of
+ * several owners; slot tables with their first bad slot; pairs of boards; see hand.h.
  */
 #include "hand.h"
 
@@ -10,10 +10,14 @@
 #define PACKED(number, value) ((uint64_t)(number) * 4294967296u + (value))
 #define ANSWERS(n) ((n) * ANSWER_BYTES)
 
+/* A slot record's fields, in order; spare bytes that aren't named are zero. */
+enum { SLOT_START, SLOT_END, SLOT_OWNER, SLOT_SPARE, SLOT_FIELDS };
+
 struct hand_task {
     const char *name;
-    struct task task; /* first is 0 */
-    uint32_t slot[2][2];
+    struct task task;
+    const uint32_t (*slots)[SLOT_FIELDS];
+    size_t records;
     uint32_t number, firm, worst, at;
     int32_t margin;
 };
@@ -36,7 +40,7 @@ struct hand_point {
 struct hand_refusal {
     const char *name;
     struct task task;
-    const uint32_t (*slots)[2];
+    const uint32_t (*slots)[SLOT_FIELDS];
     size_t records;
     uint64_t offset;
     uint32_t number;
@@ -69,13 +73,27 @@ struct hand_site {
     uint32_t number;
 };
 
-/* A slot buffer, the part of it that is a task's, and what which slot says of it. */
+/* A slot buffer, the part of it that is a task's board, and what which slot says of it. */
 struct hand_table {
     const char *name;
-    uint32_t w, e, first, count;
-    const uint32_t (*slots)[2];
+    uint32_t id, w, e, first, count;
+    const uint32_t (*slots)[SLOT_FIELDS];
     size_t records;
     uint32_t number, place;
+};
+
+/* Two boards with the same slots for a task, what it is judged, and a half tick of it. */
+struct hand_pair {
+    const char *name;
+    struct task task; /* of the first board */
+    const uint32_t (*slots)[SLOT_FIELDS];
+    size_t records;
+    uint32_t first, count; /* of the other one */
+    const uint32_t (*other_slots)[SLOT_FIELDS];
+    size_t other_records;
+    uint8_t answer[ANSWER_BYTES];
+    uint64_t offset, drops, supply;
+    int32_t margin; /* in half ticks */
 };
 
 /* T in buffers of other lengths; a count is asked for at half tick 9. */
@@ -86,44 +104,104 @@ struct hand_length {
     uint32_t number;
 };
 
-/* T of the paper: w 10, slot (0,8), e 4, D 5, h 14, k 2; one field is changed at a time. */
+#define SLOTS(...) (const uint32_t[][SLOT_FIELDS]){__VA_ARGS__}, LENGTH(((const uint32_t[][SLOT_FIELDS]){__VA_ARGS__}))
+#define BARE NULL, 0
+#define RECORDS(n) ((n) * SLOT_BYTES)
+
+/* T of the paper: w 10, slot (0,8), e 4, D 5, h 14, k 2; one field is changed at a time. Its id is 7. */
 #define T(E, M) {7, 10, (E), 5, 14, (M), 2, 0, 1}
-#define T_SLOT {{0, 8}}
+#define T_SLOT SLOTS({0, 8, 7})
+/* The same with another id, on another part of the slots. */
+#define T_OF(ID, FIRST, COUNT) {(ID), 10, 4, 5, 14, 1, 2, (FIRST), (COUNT)}
+
+/* Slots of one tick each, so many ticks apart, whose owners are a and b by turns. */
+#define TICK(i, apart, owner) {(i) * (apart), (i) * (apart) + 1, (owner)}
+#define FOUR(i, apart, a, b) \
+    TICK(i, apart, a), TICK((i) + 1, apart, b), TICK((i) + 2, apart, a), TICK((i) + 3, apart, b)
+#define SIXTEEN(i, ...) \
+    FOUR(i, __VA_ARGS__), FOUR((i) + 4, __VA_ARGS__), FOUR((i) + 8, __VA_ARGS__), FOUR((i) + 12, __VA_ARGS__)
+#define SIXTY_FOUR(i, ...) \
+    SIXTEEN(i, __VA_ARGS__), SIXTEEN((i) + 16, __VA_ARGS__), SIXTEEN((i) + 32, __VA_ARGS__), \
+    SIXTEEN((i) + 48, __VA_ARGS__)
+#define HALF_A_BOARD(i, ...) \
+    SIXTY_FOUR(i, __VA_ARGS__), SIXTY_FOUR((i) + 64, __VA_ARGS__), SIXTY_FOUR((i) + 128, __VA_ARGS__), \
+    SIXTY_FOUR((i) + 192, __VA_ARGS__)
+#define BOARD(...) HALF_A_BOARD(0, __VA_ARGS__), HALF_A_BOARD(256, __VA_ARGS__)
+
+/* T's slots, which fill a wheel of 513; T's and another's by turns; T's with a tick between; slots without a tick. */
+static const uint32_t ticks[513][SLOT_FIELDS] = {BOARD(1, 7, 7), TICK(512, 1, 7)};
+static const uint32_t by_turns[512][SLOT_FIELDS] = {BOARD(1, 7, 9)};
+static const uint32_t apart[512][SLOT_FIELDS] = {BOARD(2, 7, 7)};
+static const uint32_t nothing[513][SLOT_FIELDS] = {{0, 0, 7}};
 
 static const struct hand_task tasks[] = {
     {"P5", T(4, 1), T_SLOT, 0, 0, 2, 9, -1},
     {"P6", T(4, 0), T_SLOT, 0, 1, 2, 9, -1},
     {"P7", T(3, 1), T_SLOT, 0, 1, 0, 0, 0},
     {"P8", T(6, 1), T_SLOT, 0, 0, 2, 0, -3},
-    {"P9", {7, 10, 4, 5, 14, 1, 2, 0, 2}, {{0, 4}, {4, 8}}, 0, 0, 2, 9, -1},
-    {"P10", {7, 10, 1, 5, 5, 1, 3, 0, 0}, {{0, 0}}, 0, 0, 3, 0, -1},
-    {"P11, the sheet's first line", {1, 55, 27, 70, 70, 3, 10, 0, 2}, {{11, 21}, {33, 43}}, 0, 1, 7, 39, -7},
-    {"the sheet's second line", {2, 10, 4, 5, 14, 1, 2, 0, 1}, T_SLOT, 0, 0, 2, 9, -1},
-    {"the sheet's third line", {3, 10, 0, 5, 14, 1, 2, 0, 1}, T_SLOT, 6, 0, 0, 0, 0},
+    {"P9", {7, 10, 4, 5, 14, 1, 2, 0, 2}, SLOTS({0, 4, 7}, {4, 8, 7}), 0, 0, 2, 9, -1},
+    {"P10", {7, 10, 1, 5, 5, 1, 3, 0, 0}, BARE, 0, 0, 3, 0, -1},
+    {"P11, the sheet's first line", {1, 55, 27, 70, 70, 3, 10, 0, 2}, SLOTS({11, 21, 1}, {33, 43, 1}), 0, 1, 7, 39,
+     -7},
+    {"the sheet's second line", {2, 10, 4, 5, 14, 1, 2, 0, 1}, SLOTS({0, 8, 2}), 0, 0, 2, 9, -1},
+    {"the sheet's third line", {3, 10, 0, 5, 14, 1, 2, 0, 1}, SLOTS({0, 8, 2}), 6, 0, 0, 0, 0},
     {"D 14 passes", {7, 10, 4, 14, 14, 1, 2, 0, 1}, T_SLOT, 0, 1, 0, 0, 6},
     {"D 15 is refusal 8", {7, 10, 4, 15, 14, 1, 2, 0, 1}, T_SLOT, 8, 0, 0, 0, 0},
     {"k 1,025 is refusal 9", {7, 10, 4, 5, 14, 1, 1025, 0, 1}, T_SLOT, 9, 0, 0, 0, 0},
     {"k 1,024 passes", {7, 10, 3, 5, 14, 1, 1024, 0, 1}, T_SLOT, 0, 1, 0, 0, 0},
-    {"a slot (0,10) passes", T(4, 1), {{0, 10}}, 0, 1, 0, 0, 1},
-    {"a slot (0,11) is refusal 16", T(4, 1), {{0, 11}}, 16, 0, 0, 0, 0},
-    {"a slot (0,11) and e 0 is refusal 16", T(0, 1), {{0, 11}}, 16, 0, 0, 0, 0},
-    {"a slot (8,8) is refusal 15", T(4, 1), {{8, 8}}, 15, 0, 0, 0, 0},
-    {"slots (0,4), (3,8) are refusal 17", {7, 10, 4, 5, 14, 1, 2, 0, 2}, {{0, 4}, {3, 8}}, 17, 0, 0, 0, 0},
+    {"a slot (0,10) passes", T(4, 1), SLOTS({0, 10, 7}), 0, 1, 0, 0, 1},
+    {"a slot (0,11) is refusal 16", T(4, 1), SLOTS({0, 11, 7}), 16, 0, 0, 0, 0},
+    {"a slot (0,11) and e 0 is refusal 16", T(0, 1), SLOTS({0, 11, 7}), 16, 0, 0, 0, 0},
+    {"a slot (8,8) is refusal 15", T(4, 1), SLOTS({8, 8, 7}), 15, 0, 0, 0, 0},
+    {"slots (0,4), (3,8) are refusal 17", {7, 10, 4, 5, 14, 1, 2, 0, 2}, SLOTS({0, 4, 7}, {3, 8, 7}), 17, 0, 0, 0, 0},
     {"w 0 and e 0 is refusal 4", {7, 0, 0, 5, 14, 1, 2, 0, 1}, T_SLOT, 4, 0, 0, 0, 0},
     /* D 2: the supply at ticks 6 to 10 is 2 1 0 1 2, so that tick 8 alone has the least. */
     {"tick 8 alone below zero, no odd half tick as low", {7, 10, 1, 2, 14, 1, 2, 0, 1}, T_SLOT, 0, 1, 1, 7, -1},
     {"tick 8 alone two below zero", {7, 10, 2, 2, 14, 1, 2, 0, 1}, T_SLOT, 0, 1, 1, 5, -2},
-    {"tick 0 alone below zero", {7, 10, 1, 2, 14, 1, 2, 0, 1}, {{2, 10}}, 0, 1, 1, 0, -1},
-    {"tick 9 alone below zero", {7, 10, 1, 2, 14, 1, 2, 0, 1}, {{1, 9}}, 0, 1, 1, 9, -1},
+    {"tick 0 alone below zero", {7, 10, 1, 2, 14, 1, 2, 0, 1}, SLOTS({2, 10, 7}), 0, 1, 1, 0, -1},
+    {"tick 9 alone below zero", {7, 10, 1, 2, 14, 1, 2, 0, 1}, SLOTS({1, 9, 7}), 0, 1, 1, 9, -1},
     {"a turn and 2 ticks: tick 8 alone at zero", {7, 10, 8, 12, 14, 1, 2, 0, 1}, T_SLOT, 0, 1, 0, 0, 0},
     {"a turn and 2 ticks: tick 8 alone nearest, above zero", {7, 10, 3, 12, 14, 1, 2, 0, 1}, T_SLOT, 0, 1, 0, 0, 5},
     {"two turns and 5 ticks give more than e 10", {7, 10, 10, 25, 25, 1, 2, 0, 1}, T_SLOT, 0, 1, 0, 0, 9},
     {"two turns and 5 ticks give no e 26", {7, 10, 26, 25, 25, 1, 2, 0, 1}, T_SLOT, 0, 0, 2, 0, -7},
     {"two whole turns give e 16", {7, 10, 16, 20, 20, 2, 2, 0, 1}, T_SLOT, 0, 1, 0, 0, 0},
     {"two whole turns give no e 17", {7, 10, 17, 20, 20, 1, 2, 0, 1}, T_SLOT, 0, 0, 2, 0, -1},
-    {"the least margin of all", {7, 10, 1000000, 5, 5, 1, 3, 0, 0}, {{0, 0}}, 0, 0, 3, 0, -1000000},
-    {"the largest margin of all", {7, 1, 1, 1000000, 1000000, 1, 1, 0, 1}, {{0, 1}}, 0, 1, 0, 0, 999999},
-    {"a full wheel that gives just e", {7, 1, 1000000, 1000000, 1000000, 1, 1, 0, 1}, {{0, 1}}, 0, 1, 0, 0, 0},
+    {"the least margin of all", {7, 10, 1000000, 5, 5, 1, 3, 0, 0}, BARE, 0, 0, 3, 0, -1000000},
+    {"the largest margin of all", {7, 1, 1, 1000000, 1000000, 1, 1, 0, 1}, SLOTS({0, 1, 7}), 0, 1, 0, 0, 999999},
+    {"a full wheel that gives just e", {7, 1, 1000000, 1000000, 1000000, 1, 1, 0, 1}, SLOTS({0, 1, 7}), 0, 1, 0, 0, 0},
+    {"P5 beside another owner's slot", T_OF(7, 0, 2), SLOTS({0, 8, 7}, {8, 10, 9}), 0, 0, 2, 9, -1},
+    {"P5 between others' slots", T_OF(2, 0, 3), SLOTS({0, 1, 9}, {1, 9, 2}, {9, 10, 9}), 0, 0, 2, 11, -1},
+    /* Ticks 0 to 3, 6 and 7: the supply at ticks 0 to 9 is 4 3 3 3 2 2 3 3 3 4. */
+    {"another's slot amid T's", T_OF(7, 0, 3), SLOTS({0, 4, 7}, {4, 6, 9}, {6, 8, 7}), 0, 0, 2, 1, -2},
+    {"no slot of its own among others': all drop", T_OF(8, 0, 2), SLOTS({0, 8, 7}, {8, 10, 9}), 0, 0, 2, 0, -4},
+    /* Ticks 0 to 3 alone: the supply at ticks 0 to 9 is 4 3 2 1 0 0 1 2 3 4, so one may arrive from 9 to 10. */
+    {"an owner with another upper byte", T_OF(7, 0, 2), SLOTS({0, 4, 7}, {4, 8, 263}), 0, 0, 2, 1, -4},
+    {"an owner without the upper byte", T_OF(519, 0, 2), SLOTS({0, 4, 519}, {4, 8, 7}), 0, 0, 2, 1, -4},
+    {"an owner with another lower byte", T_OF(519, 0, 2), SLOTS({0, 4, 519}, {4, 8, 518}), 0, 0, 2, 1, -4},
+    {"an owner with the bytes exchanged", T_OF(519, 0, 2), SLOTS({0, 4, 519}, {4, 8, 1794}), 0, 0, 2, 1, -4},
+    {"id 0 has owner 0's slots", T_OF(0, 0, 2), SLOTS({0, 8, 0}, {8, 10, 1}), 0, 0, 2, 9, -1},
+    {"id 0 has neither 1's nor 256's", T_OF(0, 0, 3), SLOTS({0, 4, 0}, {4, 6, 1}, {6, 8, 256}), 0, 0, 2, 1, -4},
+    {"id 65,535 has its slots", T_OF(65535, 0, 2), SLOTS({0, 8, 65535}, {8, 10, 65534}), 0, 0, 2, 9, -1},
+    {"id 65,535 has neither 255's nor 65,280's", T_OF(65535, 0, 3),
+     SLOTS({0, 4, 65535}, {4, 6, 255}, {6, 8, 65280}), 0, 0, 2, 1, -4},
+    {"its id as owner outside the part", T_OF(7, 1, 1), SLOTS({4, 8, 7}, {0, 4, 7}, {4, 8, 7}), 0, 0, 2, 1, -4},
+    {"512 slots of the task's fill a wheel", {7, 512, 3, 3, 5, 1, 2, 0, 512}, ticks, 513, 0, 1, 0, 0, 0},
+    {"512 slots, each other one the task's", {7, 512, 1, 1, 2, 0, 2, 0, 512}, by_turns, 512, 0, 1, 2, 1, -1},
+    {"512 slots, each other tick the task's", {7, 1024, 1, 1, 2, 1, 2, 0, 512}, apart, 512, 0, 0, 2, 1, -1},
+    {"513 slots are refusal 14", {7, 513, 4, 5, 14, 1, 2, 0, 513}, ticks, 513, 14, 0, 0, 0, 0},
+    {"another owner's (8,8) is refusal 15", T_OF(7, 0, 2), SLOTS({0, 8, 7}, {8, 8, 9}), 15, 0, 0, 0, 0},
+    {"another owner's (8,11) is refusal 16", T_OF(7, 0, 2), SLOTS({0, 8, 7}, {8, 11, 9}), 16, 0, 0, 0, 0},
+    {"another owner's (7,10) is refusal 17", T_OF(7, 0, 2), SLOTS({0, 8, 7}, {7, 10, 9}), 17, 0, 0, 0, 0},
+    {"another owner's spare byte is refusal 18", T_OF(7, 0, 2), SLOTS({0, 8, 7}, {8, 10, 9, 1}), 18, 0, 0, 0, 0},
+    {"a spare byte is refusal 18", T(4, 1), SLOTS({0, 8, 7, 1}), 18, 0, 0, 0, 0},
+    {"the other spare byte and e 0 is refusal 18", T(0, 1), SLOTS({0, 8, 7, 256}), 18, 0, 0, 0, 0},
+    {"(3,8) with a spare byte is refusal 17", T_OF(7, 0, 2), SLOTS({0, 4, 7}, {3, 8, 7, 1}), 17, 0, 0, 0, 0},
+    {"id 65,536 is refusal 19", T_OF(65536, 0, 1), SLOTS({0, 8, 0}), 19, 0, 0, 0, 0},
+    {"id 65,543 is refusal 19, though 7 has a slot", T_OF(65543, 0, 1), T_SLOT, 19, 0, 0, 0, 0},
+    {"id 2^32 - 1 is refusal 19", T_OF(UINT32_MAX, 0, 1), SLOTS({0, 8, 65535}), 19, 0, 0, 0, 0},
+    {"id 65,543 and one record too few is refusal 3", T_OF(65543, 0, 2), T_SLOT, 3, 0, 0, 0, 0},
+    {"id 65,543 and w 0 is refusal 19", {65543, 0, 4, 5, 14, 1, 2, 0, 1}, T_SLOT, 19, 0, 0, 0, 0},
+    {"id 65,543 and (8,8) is refusal 19", T_OF(65543, 0, 1), SLOTS({8, 8, 7}), 19, 0, 0, 0, 0},
 };
 
 static const struct hand_reply replies[] = {
@@ -192,136 +270,217 @@ static const struct hand_grant grants[] = {
 };
 
 /*
- * The sheet's slots, and its three tasks with its three lines as answers; then T with e 3, which is P7, and P10; then T
- * with slots that get 15, 16 and 17.
+ * The sheet's slots, and its three tasks with its three lines as answers; then T with e 3, which is P7, and P10; then
+ * T with boards that get 15, 16, 17 (against the sheet's third slot) and 18, and on that slot with an id that gets 19;
+ * then four tasks of one board, of which the last has no slot there.
  */
-static const uint32_t site_slots[][2] = {{11, 21}, {33, 43}, {0, 8}, {7, 9}, {8, 8}, {7, 11}};
+static const uint32_t site_slots[][SLOT_FIELDS] = {
+    {11, 21, 1}, {33, 43, 1}, {0, 8, 2}, {7, 9, 6},  {8, 8, 4},  {7, 11, 5},
+    {0, 8, 258}, {0, 8, 8, 256}, {0, 3, 20}, {3, 5, 21}, {5, 8, 20}, {8, 10, 22},
+};
 
-enum { SHEET_1, SHEET_2, SHEET_3, SIGN_P7, SIGN_P10, SIGN_15, SIGN_16, SIGN_17 };
+enum {
+    SHEET_1,
+    SHEET_2,
+    SHEET_3,
+    SIGN_P7,
+    SIGN_P10,
+    SIGN_15,
+    SIGN_16,
+    SIGN_17,
+    SIGN_18,
+    SIGN_19,
+    PAINTER,
+    CLOCK,
+    CHIME,
+    GUEST
+};
 
 static const struct hand_sign signs[] = {
     [SHEET_1] = {{1, 55, 27, 70, 70, 3, 10, 0, 2},
                  {1, 0, 0, 0, 0, 0, 1, 0, 7, 0, 0, 0, 39, 0, 0, 0, 249, 255, 255, 255}},
     [SHEET_2] = {{2, 10, 4, 5, 14, 1, 2, 2, 1}, {2, 0, 0, 0, 0, 0, 0, 0, 2, 0, 0, 0, 9, 0, 0, 0, 255, 255, 255, 255}},
     [SHEET_3] = {{3, 10, 0, 5, 14, 1, 2, 2, 1}, {3, 0, 0, 0, 6, 0, 0, 0, 0, 0, 0, 0, 0, 0, 0, 0, 0, 0, 0, 0}},
-    [SIGN_P7] = {{258, 10, 3, 5, 14, 1, 2, 2, 1}, {2, 1, 0, 0, 0, 0, 1, 0, 0, 0, 0, 0, 0, 0, 0, 0, 0, 0, 0, 0}},
+    [SIGN_P7] = {{258, 10, 3, 5, 14, 1, 2, 6, 1}, {2, 1, 0, 0, 0, 0, 1, 0, 0, 0, 0, 0, 0, 0, 0, 0, 0, 0, 0, 0}},
     [SIGN_P10] = {{9, 10, 1, 5, 5, 1, 3, 3, 0}, {9, 0, 0, 0, 0, 0, 0, 0, 3, 0, 0, 0, 0, 0, 0, 0, 255, 255, 255, 255}},
     [SIGN_15] = {{4, 10, 4, 5, 14, 1, 2, 4, 1}, {4, 0, 0, 0, 15, 0, 0, 0, 0, 0, 0, 0, 0, 0, 0, 0, 0, 0, 0, 0}},
     [SIGN_16] = {{5, 10, 4, 5, 14, 1, 2, 5, 1}, {5, 0, 0, 0, 16, 0, 0, 0, 0, 0, 0, 0, 0, 0, 0, 0, 0, 0, 0, 0}},
     [SIGN_17] = {{6, 10, 4, 5, 14, 1, 2, 2, 2}, {6, 0, 0, 0, 17, 0, 0, 0, 0, 0, 0, 0, 0, 0, 0, 0, 0, 0, 0, 0}},
+    [SIGN_18] = {{8, 10, 4, 5, 14, 1, 2, 7, 1}, {8, 0, 0, 0, 18, 0, 0, 0, 0, 0, 0, 0, 0, 0, 0, 0, 0, 0, 0, 0}},
+    [SIGN_19] = {{65538, 10, 4, 5, 14, 1, 2, 2, 1}, {2, 0, 1, 0, 19, 0, 0, 0, 0, 0, 0, 0, 0, 0, 0, 0, 0, 0, 0, 0}},
+    /* Within 4 ticks of ticks 0 to 9 its slots (0,3), (5,8) have 3 2 2 2 3 3 2 2 2 3; both strips come at one tick. */
+    [PAINTER] = {{20, 10, 3, 4, 10, 1, 2, 8, 4},
+                 {20, 0, 0, 0, 0, 0, 0, 0, 2, 0, 0, 0, 1, 0, 0, 0, 255, 255, 255, 255}},
+    /* In a whole turn it has its two ticks. */
+    [CLOCK] = {{21, 10, 2, 10, 10, 3, 3, 8, 4}, {21, 0, 0, 0, 0, 0, 1, 0, 0, 0, 0, 0, 0, 0, 0, 0, 0, 0, 0, 0}},
+    [CHIME] = {{22, 10, 3, 10, 10, 1, 3, 8, 4}, {22, 0, 0, 0, 0, 0, 0, 0, 3, 0, 0, 0, 0, 0, 0, 0, 255, 255, 255, 255}},
+    [GUEST] = {{23, 10, 1, 5, 5, 1, 3, 8, 4}, {23, 0, 0, 0, 0, 0, 0, 0, 3, 0, 0, 0, 0, 0, 0, 0, 255, 255, 255, 255}},
 };
 
 static const struct hand_site sites[] = {
-    {"a site with no records", 0, {0}, 0, 24, 0, 0},
+    {"a site with no records", 0, {0}, 0, RECORDS(3), 0, 0},
     {"a site with no records and no slots", 0, {0}, 0, 0, 0, 0},
-    {"a site with no records leaves the reply", 0, {0}, 0, 24, ANSWERS(2), 0},
-    {"a site of P11 alone", 1, {SHEET_1}, 32, 24, ANSWERS(1), 0},
-    {"a site of a refused record alone", 1, {SHEET_3}, 32, 24, ANSWERS(1), 0},
-    {"the sheet as a site", 3, {SHEET_1, SHEET_2, SHEET_3}, 96, 24, ANSWERS(3), 0},
-    {"a refused record between P11 and T", 3, {SHEET_1, SHEET_3, SHEET_2}, 96, 24, ANSWERS(3), 0},
-    {"the same with a byte to spare", 3, {SHEET_1, SHEET_3, SHEET_2}, 96, 24, ANSWERS(3) + 1, 0},
-    {"the same with room for a fourth answer", 3, {SHEET_1, SHEET_3, SHEET_2}, 96, 24, ANSWERS(4), 0},
-    {"T, P7 and P10 in a site", 3, {SHEET_2, SIGN_P7, SIGN_P10}, 96, 24, ANSWERS(3), 0},
-    {"the same record three times", 3, {SHEET_1, SHEET_1, SHEET_1}, 96, 24, ANSWERS(3), 0},
-    {"refusals 15, 16 and 17 in a site", 3, {SIGN_15, SIGN_16, SIGN_17}, 96, 48, ANSWERS(3), 0},
-    {"T behind refusal 17, on one slot of it", 3, {SIGN_17, SHEET_2, SIGN_15}, 96, 48, ANSWERS(3), 0},
-    {"tasks of 31 bytes are refusal 1", 1, {SHEET_1}, 31, 24, ANSWERS(3), 1},
-    {"tasks of 33 bytes are refusal 1", 2, {SHEET_1, SHEET_2}, 33, 24, ANSWERS(3), 1},
-    {"tasks of 63 bytes are refusal 1", 2, {SHEET_1, SHEET_2}, 63, 24, ANSWERS(3), 1},
-    {"slots of 23 bytes are refusal 1", 2, {SHEET_1, SHEET_2}, 64, 23, ANSWERS(3), 1},
-    {"slots of 25 bytes are refusal 1, also with no records", 0, {0}, 0, 25, ANSWERS(3), 1},
-    {"tasks of 63 bytes and no reply are refusal 1", 2, {SHEET_1, SHEET_2}, 63, 24, 0, 1},
-    {"a reply one byte short is refusal 2", 3, {SHEET_1, SHEET_3, SHEET_2}, 96, 24, ANSWERS(3) - 1, 2},
-    {"a reply of two answers for three is refusal 2", 3, {SHEET_1, SHEET_2, SHEET_3}, 96, 24, ANSWERS(2), 2},
-    {"no reply for refused records is refusal 2", 1, {SHEET_3}, 32, 24, 0, 2},
+    {"a site with no records leaves the reply", 0, {0}, 0, RECORDS(3), ANSWERS(2), 0},
+    {"a site of P11 alone", 1, {SHEET_1}, 32, RECORDS(3), ANSWERS(1), 0},
+    {"a site of a refused record alone", 1, {SHEET_3}, 32, RECORDS(3), ANSWERS(1), 0},
+    {"the sheet as a site", 3, {SHEET_1, SHEET_2, SHEET_3}, 96, RECORDS(3), ANSWERS(3), 0},
+    {"a refused record between P11 and T", 3, {SHEET_1, SHEET_3, SHEET_2}, 96, RECORDS(3), ANSWERS(3), 0},
+    {"the same with a byte to spare", 3, {SHEET_1, SHEET_3, SHEET_2}, 96, RECORDS(3), ANSWERS(3) + 1, 0},
+    {"the same with room for a fourth answer", 3, {SHEET_1, SHEET_3, SHEET_2}, 96, RECORDS(3), ANSWERS(4), 0},
+    {"T, P7 and P10 in a site", 3, {SHEET_2, SIGN_P7, SIGN_P10}, 96, RECORDS(7), ANSWERS(3), 0},
+    {"the same record three times", 3, {SHEET_1, SHEET_1, SHEET_1}, 96, RECORDS(3), ANSWERS(3), 0},
+    {"refusals 15, 16 and 17 in a site", 3, {SIGN_15, SIGN_16, SIGN_17}, 96, RECORDS(6), ANSWERS(3), 0},
+    {"T behind refusal 17, on one slot of it", 3, {SIGN_17, SHEET_2, SIGN_15}, 96, RECORDS(6), ANSWERS(3), 0},
+    {"refusals 18 and 19 beside T, in its slot", 3, {SIGN_18, SHEET_2, SIGN_19}, 96, RECORDS(8), ANSWERS(3), 0},
+    {"three tasks on one board", 3, {PAINTER, CLOCK, CHIME}, 96, RECORDS(12), ANSWERS(3), 0},
+    {"a task without slots on the board of two", 3, {CHIME, GUEST, PAINTER}, 96, RECORDS(12), ANSWERS(3), 0},
+    {"tasks of 31 bytes are refusal 1", 1, {SHEET_1}, 31, RECORDS(3), ANSWERS(3), 1},
+    {"tasks of 33 bytes are refusal 1", 2, {SHEET_1, SHEET_2}, 33, RECORDS(3), ANSWERS(3), 1},
+    {"tasks of 63 bytes are refusal 1", 2, {SHEET_1, SHEET_2}, 63, RECORDS(3), ANSWERS(3), 1},
+    {"slots of 35 bytes are refusal 1", 2, {SHEET_1, SHEET_2}, 64, 35, ANSWERS(3), 1},
+    {"slots of 37 bytes are refusal 1, also with no records", 0, {0}, 0, 37, ANSWERS(3), 1},
+    {"slots of 8 bytes are refusal 1", 1, {SHEET_1}, 32, 8, ANSWERS(3), 1},
+    {"slots of 8 bytes are refusal 1, also with no records", 0, {0}, 0, 8, ANSWERS(3), 1},
+    {"slots of 32 bytes are refusal 1", 1, {SHEET_1}, 32, 32, ANSWERS(3), 1},
+    {"tasks of 63 bytes and no reply are refusal 1", 2, {SHEET_1, SHEET_2}, 63, RECORDS(3), 0, 1},
+    {"a reply one byte short is refusal 2", 3, {SHEET_1, SHEET_3, SHEET_2}, 96, RECORDS(3), ANSWERS(3) - 1, 2},
+    {"a reply of two answers for three is refusal 2", 3, {SHEET_1, SHEET_2, SHEET_3}, 96, RECORDS(3), ANSWERS(2), 2},
+    {"no reply for refused records is refusal 2", 1, {SHEET_3}, 32, RECORDS(3), 0, 2},
 };
 
-#define SLOTS(...) (const uint32_t[][2]){__VA_ARGS__}, LENGTH(((const uint32_t[][2]){__VA_ARGS__}))
-
-/* Slots of one tick each, which fill a wheel of 65, and as many that have no tick at all. */
-#define FOUR(i) {(i), (i) + 1}, {(i) + 1, (i) + 2}, {(i) + 2, (i) + 3}, {(i) + 3, (i) + 4}
-#define SIXTEEN(i) FOUR(i), FOUR((i) + 4), FOUR((i) + 8), FOUR((i) + 12)
-
-static const uint32_t ticks[65][2] = {SIXTEEN(0), SIXTEEN(16), SIXTEEN(32), SIXTEEN(48), {64, 65}};
-static const uint32_t nothing[65][2] = {{0, 0}};
-
-/* w, e, first and count; the other fields are T's. */
+/* id, w, e, first and count; the other fields are T's. */
 static const struct hand_table tables[] = {
-    {"no slots are good", 10, 4, 1, 0, SLOTS({5, 5}), 0, 0},
-    {"(0,10) is good in a wheel of 10", 10, 4, 0, 1, SLOTS({0, 10}), 0, 0},
-    {"(0,11) is 16", 10, 4, 0, 1, SLOTS({0, 11}), 16, 0},
-    {"slots that touch up to w are good", 10, 4, 0, 3, SLOTS({0, 4}, {4, 8}, {8, 10}), 0, 0},
-    {"the last tick of the largest wheel is good", 16384, 4, 0, 1, SLOTS({16383, 16384}), 0, 0},
-    {"a tick past the largest wheel is 16", 16384, 4, 0, 1, SLOTS({16383, 16385}), 16, 0},
-    {"a good table beside e 0", 10, 0, 0, 2, SLOTS({0, 4}, {4, 8}), 0, 0},
-    {"a bad table beside e 0", 10, 0, 0, 2, SLOTS({0, 4}, {3, 8}), 17, 1},
-    {"64 slots are good", 65, 4, 0, 64, ticks, 65, 0, 0},
-    {"64 slots, the last past the wheel", 63, 4, 0, 64, ticks, 65, 16, 63},
-    {"65 slots are 14", 65, 4, 0, 65, ticks, 65, 14, 0},
-    {"65 slots are 14, though the second ends above w", 1, 4, 0, 65, ticks, 65, 14, 0},
-    {"65 slots are 14, though each one is 15", 65, 4, 0, 65, nothing, 65, 14, 0},
-    {"64 slots, each one 15", 65, 4, 1, 64, nothing, 65, 15, 0},
-    {"w 0 is 4 before 14", 0, 4, 0, 65, ticks, 65, 4, 0},
-    {"w 16,385 is 4 before 15", 16385, 4, 0, 1, SLOTS({5, 5}), 4, 0},
-    {"w 2^32 - 1 is 4", UINT32_MAX, 4, 0, 1, SLOTS({0, 8}), 4, 0},
-    {"one record too few is 3 before 4 and 14", 0, 4, 1, 65, ticks, 65, 3, 0},
-    {"one record too few is 3 before 15", 10, 4, 0, 2, SLOTS({5, 5}), 3, 0},
-    {"no slots past the last record are 3", 10, 4, 2, 0, SLOTS({0, 8}), 3, 0},
-    {"15 in the first slot", 10, 4, 0, 3, SLOTS({4, 4}, {4, 8}, {8, 10}), 15, 0},
-    {"15 in the middle", 10, 4, 0, 3, SLOTS({0, 4}, {8, 8}, {8, 10}), 15, 1},
-    {"15 in the last slot", 10, 4, 0, 3, SLOTS({0, 4}, {4, 8}, {10, 10}), 15, 2},
-    {"15 by one tick more", 10, 4, 0, 3, SLOTS({0, 4}, {4, 8}, {10, 9}), 15, 2},
-    {"16 in the first slot", 10, 4, 0, 3, SLOTS({0, 11}, {11, 12}, {12, 13}), 16, 0},
-    {"16 in the middle", 10, 4, 0, 3, SLOTS({0, 4}, {4, 11}, {11, 12}), 16, 1},
-    {"16 in the last slot", 10, 4, 0, 3, SLOTS({0, 4}, {4, 8}, {8, 11}), 16, 2},
-    {"17 in the second slot", 10, 4, 0, 3, SLOTS({0, 4}, {3, 8}, {8, 10}), 17, 1},
-    {"17 in the middle", 10, 4, 0, 4, SLOTS({0, 4}, {4, 6}, {5, 8}, {8, 10}), 17, 2},
-    {"17 in the last slot", 10, 4, 0, 3, SLOTS({0, 4}, {4, 8}, {7, 10}), 17, 2},
-    {"17 against the slot before alone", 10, 4, 0, 3, SLOTS({0, 2}, {6, 8}, {4, 5}), 17, 2},
-    {"no 17 against the record before the part", 10, 4, 1, 2, SLOTS({0, 4}, {3, 8}, {8, 10}), 0, 0},
-    {"no look behind the part", 10, 4, 0, 2, SLOTS({0, 4}, {4, 8}, {8, 8}), 0, 0},
-    {"15 before 16", 10, 4, 0, 2, SLOTS({0, 4}, {11, 11}), 15, 1},
-    {"15 before 17", 10, 4, 0, 2, SLOTS({0, 4}, {3, 3}), 15, 1},
-    {"16 before 17", 10, 4, 0, 2, SLOTS({0, 4}, {3, 11}), 16, 1},
-    {"all three behind a slot past the wheel", 10, 4, 0, 2, SLOTS({0, 12}, {11, 11}), 16, 0},
-    {"all three, if the record before the part were a slot", 10, 4, 1, 1, SLOTS({0, 12}, {11, 11}), 15, 0},
-    {"17, then 15", 10, 4, 0, 3, SLOTS({0, 4}, {3, 8}, {9, 9}), 17, 1},
-    {"17, then 16", 10, 4, 0, 3, SLOTS({0, 4}, {3, 8}, {8, 11}), 17, 1},
-    {"16, then 15", 10, 4, 0, 2, SLOTS({0, 11}, {12, 12}), 16, 0},
-    {"15, then 16", 10, 4, 0, 2, SLOTS({4, 4}, {4, 11}), 15, 0},
-    {"15, then 17", 10, 4, 0, 2, SLOTS({4, 4}, {3, 8}), 15, 0},
-    {"16, then 17", 10, 4, 0, 2, SLOTS({0, 11}, {5, 8}), 16, 0},
-    {"17 twice", 10, 4, 0, 3, SLOTS({0, 4}, {3, 6}, {5, 8}), 17, 1},
-    {"a place is counted from the task's first", 10, 4, 2, 3, SLOTS({5, 5}, {0, 8}, {0, 2}, {2, 4}, {3, 8}), 17, 2},
-    {"place 0 behind other records", 10, 4, 2, 1, SLOTS({0, 4}, {4, 8}, {8, 8}), 15, 0},
-    {"a start of 2^32 - 1", 10, 4, 0, 1, SLOTS({UINT32_MAX, 8}), 15, 0},
-    {"an end of 2^32 - 1", 10, 4, 0, 1, SLOTS({0, UINT32_MAX}), 16, 0},
-    {"both 2^32 - 1", 10, 4, 0, 2, SLOTS({0, 8}, {UINT32_MAX, UINT32_MAX}), 15, 1},
+    {"no slots are good", 7, 10, 4, 1, 0, SLOTS({5, 5, 7}), 0, 0},
+    {"(0,10) is good in a wheel of 10", 7, 10, 4, 0, 1, SLOTS({0, 10, 7}), 0, 0},
+    {"(0,11) is 16", 7, 10, 4, 0, 1, SLOTS({0, 11, 7}), 16, 0},
+    {"slots that touch up to w are good", 7, 10, 4, 0, 3, SLOTS({0, 4, 7}, {4, 8, 7}, {8, 10, 7}), 0, 0},
+    {"the last tick of the largest wheel is good", 7, 16384, 4, 0, 1, SLOTS({16383, 16384, 7}), 0, 0},
+    {"a tick past the largest wheel is 16", 7, 16384, 4, 0, 1, SLOTS({16383, 16385, 7}), 16, 0},
+    {"a good table beside e 0", 7, 10, 0, 0, 2, SLOTS({0, 4, 7}, {4, 8, 7}), 0, 0},
+    {"a bad table beside e 0", 7, 10, 0, 0, 2, SLOTS({0, 4, 7}, {3, 8, 7}), 17, 1},
+    {"64 slots are good", 7, 65, 4, 0, 64, ticks, 65, 0, 0},
+    {"65 slots are good", 7, 65, 4, 0, 65, ticks, 65, 0, 0},
+    {"65 slots, the last past the wheel", 7, 64, 4, 0, 65, ticks, 65, 16, 64},
+    {"511 slots are good", 7, 513, 4, 0, 511, ticks, 513, 0, 0},
+    {"512 slots are good", 7, 513, 4, 1, 512, ticks, 513, 0, 0},
+    {"512 slots of two owners are good", 7, 512, 4, 0, 512, by_turns, 512, 0, 0},
+    {"512 slots, the last past the wheel", 7, 511, 4, 0, 512, ticks, 513, 16, 511},
+    {"513 slots are 14", 7, 513, 4, 0, 513, ticks, 513, 14, 0},
+    {"513 slots are 14, though the second ends above w", 7, 1, 4, 0, 513, ticks, 513, 14, 0},
+    {"513 slots are 14, though each one is 15", 7, 513, 4, 0, 513, nothing, 513, 14, 0},
+    {"512 slots, each one 15", 7, 513, 4, 1, 512, nothing, 513, 15, 0},
+    {"w 0 is 4 before 14", 7, 0, 4, 0, 513, ticks, 513, 4, 0},
+    {"w 16,385 is 4 before 15", 7, 16385, 4, 0, 1, SLOTS({5, 5, 7}), 4, 0},
+    {"w 2^32 - 1 is 4", 7, UINT32_MAX, 4, 0, 1, SLOTS({0, 8, 7}), 4, 0},
+    {"one record too few is 3 before 4 and 14", 7, 0, 4, 1, 513, ticks, 513, 3, 0},
+    {"one record too few is 3 before 15", 7, 10, 4, 0, 2, SLOTS({5, 5, 7}), 3, 0},
+    {"no slots past the last record are 3", 7, 10, 4, 2, 0, SLOTS({0, 8, 7}), 3, 0},
+    {"15 in the first slot", 7, 10, 4, 0, 3, SLOTS({4, 4, 7}, {4, 8, 7}, {8, 10, 7}), 15, 0},
+    {"15 in the middle", 7, 10, 4, 0, 3, SLOTS({0, 4, 7}, {8, 8, 7}, {8, 10, 7}), 15, 1},
+    {"15 in the last slot", 7, 10, 4, 0, 3, SLOTS({0, 4, 7}, {4, 8, 7}, {10, 10, 7}), 15, 2},
+    {"15 by one tick more", 7, 10, 4, 0, 3, SLOTS({0, 4, 7}, {4, 8, 7}, {10, 9, 7}), 15, 2},
+    {"16 in the first slot", 7, 10, 4, 0, 3, SLOTS({0, 11, 7}, {11, 12, 7}, {12, 13, 7}), 16, 0},
+    {"16 in the middle", 7, 10, 4, 0, 3, SLOTS({0, 4, 7}, {4, 11, 7}, {11, 12, 7}), 16, 1},
+    {"16 in the last slot", 7, 10, 4, 0, 3, SLOTS({0, 4, 7}, {4, 8, 7}, {8, 11, 7}), 16, 2},
+    {"17 in the second slot", 7, 10, 4, 0, 3, SLOTS({0, 4, 7}, {3, 8, 7}, {8, 10, 7}), 17, 1},
+    {"17 in the middle", 7, 10, 4, 0, 4, SLOTS({0, 4, 7}, {4, 6, 7}, {5, 8, 7}, {8, 10, 7}), 17, 2},
+    {"17 in the last slot", 7, 10, 4, 0, 3, SLOTS({0, 4, 7}, {4, 8, 7}, {7, 10, 7}), 17, 2},
+    {"17 against the slot before alone", 7, 10, 4, 0, 3, SLOTS({0, 2, 7}, {6, 8, 7}, {4, 5, 7}), 17, 2},
+    {"no 17 against the record before the part", 7, 10, 4, 1, 2, SLOTS({0, 4, 7}, {3, 8, 7}, {8, 10, 7}), 0, 0},
+    {"no look behind the part", 7, 10, 4, 0, 2, SLOTS({0, 4, 7}, {4, 8, 7}, {8, 8, 7}), 0, 0},
+    {"15 before 16", 7, 10, 4, 0, 2, SLOTS({0, 4, 7}, {11, 11, 7}), 15, 1},
+    {"15 before 17", 7, 10, 4, 0, 2, SLOTS({0, 4, 7}, {3, 3, 7}), 15, 1},
+    {"16 before 17", 7, 10, 4, 0, 2, SLOTS({0, 4, 7}, {3, 11, 7}), 16, 1},
+    {"all three behind a slot past the wheel", 7, 10, 4, 0, 2, SLOTS({0, 12, 7}, {11, 11, 7}), 16, 0},
+    {"all three, if the record before the part were a slot", 7, 10, 4, 1, 1, SLOTS({0, 12, 7}, {11, 11, 7}), 15, 0},
+    {"17, then 15", 7, 10, 4, 0, 3, SLOTS({0, 4, 7}, {3, 8, 7}, {9, 9, 7}), 17, 1},
+    {"17, then 16", 7, 10, 4, 0, 3, SLOTS({0, 4, 7}, {3, 8, 7}, {8, 11, 7}), 17, 1},
+    {"16, then 15", 7, 10, 4, 0, 2, SLOTS({0, 11, 7}, {12, 12, 7}), 16, 0},
+    {"15, then 16", 7, 10, 4, 0, 2, SLOTS({4, 4, 7}, {4, 11, 7}), 15, 0},
+    {"15, then 17", 7, 10, 4, 0, 2, SLOTS({4, 4, 7}, {3, 8, 7}), 15, 0},
+    {"16, then 17", 7, 10, 4, 0, 2, SLOTS({0, 11, 7}, {5, 8, 7}), 16, 0},
+    {"17 twice", 7, 10, 4, 0, 3, SLOTS({0, 4, 7}, {3, 6, 7}, {5, 8, 7}), 17, 1},
+    {"a place is counted from the part's first", 7, 10, 4, 2, 3,
+     SLOTS({5, 5, 7}, {0, 8, 7}, {0, 2, 7}, {2, 4, 7}, {3, 8, 7}), 17, 2},
+    {"place 0 behind other records", 7, 10, 4, 2, 1, SLOTS({0, 4, 7}, {4, 8, 7}, {8, 8, 7}), 15, 0},
+    {"a start of 2^32 - 1", 7, 10, 4, 0, 1, SLOTS({UINT32_MAX, 8, 7}), 15, 0},
+    {"an end of 2^32 - 1", 7, 10, 4, 0, 1, SLOTS({0, UINT32_MAX, 7}), 16, 0},
+    {"both 2^32 - 1", 7, 10, 4, 0, 2, SLOTS({0, 8, 7}, {UINT32_MAX, UINT32_MAX, 7}), 15, 1},
+    {"18 by the first byte in the first slot", 7, 10, 4, 0, 3, SLOTS({0, 4, 7, 1}, {4, 8, 7}, {8, 10, 7}), 18, 0},
+    {"18 by the first byte in the middle", 7, 10, 4, 0, 3, SLOTS({0, 4, 7}, {4, 8, 7, 128}, {8, 10, 7}), 18, 1},
+    {"18 by the first byte in the last slot", 7, 10, 4, 0, 3, SLOTS({0, 4, 7}, {4, 8, 7}, {8, 10, 7, 255}), 18, 2},
+    {"18 by the second byte in the first slot", 7, 10, 4, 0, 3, SLOTS({0, 4, 7, 256}, {4, 8, 7}, {8, 10, 7}), 18, 0},
+    {"18 by the second byte in the middle", 7, 10, 4, 0, 3, SLOTS({0, 4, 7}, {4, 8, 7, 32768}, {8, 10, 7}), 18, 1},
+    {"18 by the second byte in the last slot", 7, 10, 4, 0, 3, SLOTS({0, 4, 7}, {4, 8, 7}, {8, 10, 7, 65280}), 18, 2},
+    {"18 by both bytes", 7, 10, 4, 0, 1, SLOTS({0, 8, 7, 65535}), 18, 0},
+    {"18 beside e 0", 7, 10, 0, 0, 1, SLOTS({0, 8, 7, 1}), 18, 0},
+    {"no 18 from a record outside the part", 7, 10, 4, 1, 1, SLOTS({0, 1, 7, 1}, {1, 8, 7}, {8, 10, 7, 256}), 0, 0},
+    {"15 before 18", 7, 10, 4, 0, 2, SLOTS({0, 4, 7}, {8, 8, 7, 1}), 15, 1},
+    {"16 before 18", 7, 10, 4, 0, 2, SLOTS({0, 4, 7}, {4, 11, 7, 1}), 16, 1},
+    {"17 before 18", 7, 10, 4, 0, 2, SLOTS({0, 4, 7}, {3, 8, 7, 1}), 17, 1},
+    {"18, then 15", 7, 10, 4, 0, 2, SLOTS({0, 4, 7, 1}, {8, 8, 7}), 18, 0},
+    {"18, then 17", 7, 10, 4, 0, 2, SLOTS({0, 4, 7, 256}, {3, 8, 7}), 18, 0},
+    {"15, then 18", 7, 10, 4, 0, 2, SLOTS({4, 4, 7}, {4, 8, 7, 1}), 15, 0},
+    {"17, then 18", 7, 10, 4, 0, 3, SLOTS({0, 4, 7}, {3, 8, 7}, {8, 10, 7, 1}), 17, 1},
+    {"18 twice", 7, 10, 4, 0, 3, SLOTS({0, 4, 7}, {4, 8, 7, 1}, {8, 10, 7, 1}), 18, 1},
+    {"three owners are good", 7, 10, 4, 0, 3, SLOTS({0, 4, 7}, {4, 8, 8}, {8, 10, 9}), 0, 0},
+    {"another owner's board is good", 7, 10, 4, 0, 2, SLOTS({0, 4, 8}, {4, 8, 9}), 0, 0},
+    {"15 in another owner's slot", 7, 10, 4, 0, 3, SLOTS({0, 4, 7}, {4, 4, 9}, {4, 8, 7}), 15, 1},
+    {"16 in another owner's slot", 7, 10, 4, 0, 2, SLOTS({0, 4, 7}, {4, 11, 9}), 16, 1},
+    {"17 in another owner's slot", 7, 10, 4, 0, 3, SLOTS({0, 4, 7}, {3, 6, 9}, {6, 8, 7}), 17, 1},
+    {"18 in another owner's slot", 7, 10, 4, 0, 3, SLOTS({0, 4, 7}, {4, 6, 9, 1}, {6, 8, 7}), 18, 1},
+    {"15 in another owner's slot, then 16", 7, 10, 4, 0, 3, SLOTS({0, 4, 7}, {4, 4, 9}, {4, 11, 7}), 15, 1},
+    {"16, then 15 in another owner's slot", 7, 10, 4, 0, 2, SLOTS({0, 11, 7}, {12, 12, 9}), 16, 0},
+    {"a board without own slots is bad all the same", 7, 10, 4, 0, 2, SLOTS({0, 4, 8}, {4, 4, 9}), 15, 1},
+    {"17 against another owner's slot", 7, 10, 4, 0, 3, SLOTS({0, 2, 7}, {2, 6, 9}, {5, 8, 7}), 17, 2},
+    {"17 against it, first of all", 7, 10, 4, 0, 2, SLOTS({0, 4, 9}, {3, 8, 7}), 17, 1},
+    {"17 between two others", 7, 10, 4, 0, 3, SLOTS({0, 2, 7}, {2, 6, 9}, {5, 8, 8}), 17, 2},
+    {"no 17 against it before the part", 7, 10, 4, 1, 1, SLOTS({0, 4, 9}, {3, 8, 7}), 0, 0},
+    {"17 against it, though T's last one is behind", 7, 10, 4, 0, 3, SLOTS({0, 2, 7}, {8, 10, 9}, {2, 8, 7}), 17, 2},
+    {"id 65,535 is good", 65535, 10, 4, 0, 1, SLOTS({0, 8, 7}), 0, 0},
+    {"id 65,536 is 19", 65536, 10, 4, 0, 1, SLOTS({0, 8, 0}), 19, 0},
+    {"id 65,543 is 19, though 7 has a slot", 65543, 10, 4, 0, 1, SLOTS({0, 8, 7}), 19, 0},
+    {"id 2^32 - 1 is 19", UINT32_MAX, 10, 4, 0, 1, SLOTS({0, 8, 65535}), 19, 0},
+    {"id 2^31 + 7 is 19", 2147483655, 10, 4, 0, 1, SLOTS({0, 8, 7}), 19, 0},
+    {"id 65,536 on no slots is 19", 65536, 10, 4, 0, 0, SLOTS({0, 8, 7}), 19, 0},
+    {"id 65,536 beside e 0 is 19", 65536, 10, 0, 0, 1, SLOTS({0, 8, 7}), 19, 0},
+    {"one record too few is 3 before 19", 65543, 10, 4, 0, 2, SLOTS({0, 8, 7}), 3, 0},
+    {"19 before 4", 65543, 0, 4, 0, 1, SLOTS({0, 8, 7}), 19, 0},
+    {"19 before 14", 65543, 513, 4, 0, 513, ticks, 513, 19, 0},
+    {"19 before 15", 65543, 10, 4, 0, 2, SLOTS({0, 4, 7}, {8, 8, 7}), 19, 0},
+    {"19 before 18", 65543, 10, 4, 0, 2, SLOTS({0, 4, 7}, {4, 8, 7, 1}), 19, 0},
 };
 
 /* Offset 20 is refused by T itself, so it shows what comes before 11. */
 static const struct hand_refusal refusals[] = {
-    {"one slot record too few is refusal 3", {7, 0, 4, 5, 14, 1, 2, 0, 2}, SLOTS({0, 8}), 9, 3},
-    {"w 0 is refusal 4", {7, 0, 4, 5, 14, 1, 2, 0, 1}, SLOTS({0, 8}), 0, 4},
-    {"w 16,385 is refusal 4", {7, 16385, 4, 5, 14, 1, 2, 0, 1}, SLOTS({8, 8}), 9, 4},
-    {"65 slots are refusal 14", {7, 65, 4, 5, 14, 1, 2, 0, 65}, ticks, 65, 9, 14},
-    {"(8,8) is refusal 15", T(0, 1), SLOTS({8, 8}), 9, 15},
-    {"(0,11) is refusal 16", T(0, 1), SLOTS({0, 11}), 20, 16},
-    {"(0,4), (3,8) is refusal 17", {7, 10, 0, 5, 14, 1, 2, 0, 2}, SLOTS({0, 4}, {3, 8}), 9, 17},
-    {"e 0 is refusal 6", {7, 10, 0, 5, 0, 1, 2, 0, 1}, SLOTS({0, 8}), 9, 6},
-    {"e 1,000,001 is refusal 6", T(1000001, 1), SLOTS({0, 8}), 20, 6},
-    {"h 0 is refusal 7", {7, 10, 4, 5, 0, 1, 2, 0, 1}, SLOTS({0, 8}), 9, 7},
-    {"h 1,000,001 is refusal 7", {7, 10, 4, 0, 1000001, 1, 2, 0, 1}, SLOTS({0, 8}), 20, 7},
-    {"D 0 is refusal 8", {7, 10, 4, 0, 14, 1, 0, 0, 1}, SLOTS({0, 8}), 9, 8},
-    {"D above h is refusal 8", {7, 10, 4, 15, 14, 1, 2, 0, 1}, SLOTS({0, 8}), 20, 8},
-    {"k 0 is refusal 9", {7, 10, 4, 5, 14, 1, 0, 0, 1}, SLOTS({0, 8}), 9, 9},
-    {"k 1,025 is refusal 9 at a half tick", {7, 10, 4, 5, 14, 1026, 1025, 0, 1}, SLOTS({0, 8}), 20, 9},
-    {"m above k is refusal 10", T(4, 3), SLOTS({0, 8}), 9, 10},
-    {"m above k is refusal 10 before 11", T(4, 3), SLOTS({0, 8}), 20, 10},
-    {"T from half tick 20 is refusal 11", T(4, 1), SLOTS({0, 8}), 20, 11},
-    {"T from half tick 2^32 + 9 is refusal 11", T(4, 1), SLOTS({0, 8}), 4294967305, 11},
-    {"T from half tick 2^63 + 9 is refusal 11", T(4, 1), SLOTS({0, 8}), 9223372036854775817u, 11},
-    {"T from half tick 2^64 - 1 is refusal 11", T(4, 1), SLOTS({0, 8}), UINT64_MAX, 11},
+    {"one slot record too few is refusal 3", {7, 0, 4, 5, 14, 1, 2, 0, 2}, SLOTS({0, 8, 7}), 9, 3},
+    {"w 0 is refusal 4", {7, 0, 4, 5, 14, 1, 2, 0, 1}, SLOTS({0, 8, 7}), 0, 4},
+    {"w 16,385 is refusal 4", {7, 16385, 4, 5, 14, 1, 2, 0, 1}, SLOTS({8, 8, 7}), 9, 4},
+    {"513 slots are refusal 14 at a half tick", {7, 513, 4, 5, 14, 1, 2, 0, 513}, ticks, 513, 9, 14},
+    {"(8,8) is refusal 15", T(0, 1), SLOTS({8, 8, 7}), 9, 15},
+    {"(0,11) is refusal 16", T(0, 1), SLOTS({0, 11, 7}), 20, 16},
+    {"(0,4), (3,8) is refusal 17", {7, 10, 0, 5, 14, 1, 2, 0, 2}, SLOTS({0, 4, 7}, {3, 8, 7}), 9, 17},
+    {"another owner's (3,8) is refusal 17", T_OF(7, 0, 2), SLOTS({0, 4, 7}, {3, 8, 9}), 9, 17},
+    {"a spare byte is refusal 18 at a half tick", T(0, 1), SLOTS({0, 8, 7, 1}), 20, 18},
+    {"another owner's spare byte is refusal 18", T_OF(7, 0, 2), SLOTS({0, 8, 7}, {8, 10, 9, 256}), 9, 18},
+    {"one slot record too few is refusal 3 before 19", T_OF(65543, 0, 2), SLOTS({0, 8, 7}), 9, 3},
+    {"id 65,536 is refusal 19 at a half tick", T_OF(65536, 0, 1), SLOTS({0, 8, 0}), 9, 19},
+    {"id 65,543 is refusal 19 at a half tick", {65543, 0, 0, 5, 14, 1, 2, 0, 1}, SLOTS({0, 8, 7}), 20, 19},
+    {"id 2^32 - 1 is refusal 19 before 18", T_OF(UINT32_MAX, 0, 1), SLOTS({0, 8, 65535, 1}), 9, 19},
+    {"e 0 is refusal 6", {7, 10, 0, 5, 0, 1, 2, 0, 1}, SLOTS({0, 8, 7}), 9, 6},
+    {"e 1,000,001 is refusal 6", T(1000001, 1), SLOTS({0, 8, 7}), 20, 6},
+    {"h 0 is refusal 7", {7, 10, 4, 5, 0, 1, 2, 0, 1}, SLOTS({0, 8, 7}), 9, 7},
+    {"h 1,000,001 is refusal 7", {7, 10, 4, 0, 1000001, 1, 2, 0, 1}, SLOTS({0, 8, 7}), 20, 7},
+    {"D 0 is refusal 8", {7, 10, 4, 0, 14, 1, 0, 0, 1}, SLOTS({0, 8, 7}), 9, 8},
+    {"D above h is refusal 8", {7, 10, 4, 15, 14, 1, 2, 0, 1}, SLOTS({0, 8, 7}), 20, 8},
+    {"k 0 is refusal 9", {7, 10, 4, 5, 14, 1, 0, 0, 1}, SLOTS({0, 8, 7}), 9, 9},
+    {"k 1,025 is refusal 9 at a half tick", {7, 10, 4, 5, 14, 1026, 1025, 0, 1}, SLOTS({0, 8, 7}), 20, 9},
+    {"m above k is refusal 10", T(4, 3), SLOTS({0, 8, 7}), 9, 10},
+    {"m above k is refusal 10 before 11", T(4, 3), SLOTS({0, 8, 7}), 20, 10},
+    {"T from half tick 20 is refusal 11", T(4, 1), SLOTS({0, 8, 7}), 20, 11},
+    {"T from half tick 2^32 + 9 is refusal 11", T(4, 1), SLOTS({0, 8, 7}), 4294967305, 11},
+    {"T from half tick 2^63 + 9 is refusal 11", T(4, 1), SLOTS({0, 8, 7}), 9223372036854775817u, 11},
+    {"T from half tick 2^64 - 1 is refusal 11", T(4, 1), SLOTS({0, 8, 7}), UINT64_MAX, 11},
 };
 
 const struct hand_bits hand_bits[HAND_BITS] = {
@@ -337,21 +496,53 @@ const struct hand_bits hand_bits[HAND_BITS] = {
 
 /* The buffer has two records, of which T's is the first. */
 static const struct hand_length lengths[] = {
-    {"which slot of 0 bytes is refusal 1", WHICH, 0, 16, 1},
-    {"which slot of 31 bytes is refusal 1", WHICH, 31, 16, 1},
-    {"which slot of 33 bytes is refusal 1", WHICH, 33, 16, 1},
-    {"which slot of slots of 7 bytes is refusal 1", WHICH, 32, 7, 1},
-    {"which slot of slots of 9 bytes is refusal 1", WHICH, 32, 9, 1},
+    {"judging with slots of 8 bytes is refusal 1", JUDGE, 32, 8, 1},
+    {"judging with slots of 11 bytes is refusal 1", JUDGE, 32, 11, 1},
+    {"judging with slots of 13 bytes is refusal 1", JUDGE, 32, 13, 1},
+    {"judging with slots of 16 bytes is refusal 1", JUDGE, 32, 16, 1},
+    {"which slot of 0 bytes is refusal 1", WHICH, 0, RECORDS(2), 1},
+    {"which slot of 31 bytes is refusal 1", WHICH, 31, RECORDS(2), 1},
+    {"which slot of 33 bytes is refusal 1", WHICH, 33, RECORDS(2), 1},
+    {"which slot of slots of 8 bytes is refusal 1", WHICH, 32, 8, 1},
+    {"which slot of slots of 11 bytes is refusal 1", WHICH, 32, 11, 1},
+    {"which slot of slots of 13 bytes is refusal 1", WHICH, 32, 13, 1},
+    {"which slot of slots of 16 bytes is refusal 1", WHICH, 32, 16, 1},
     {"which slot of no bytes at all is refusal 1", WHICH, 0, 0, 1},
     {"which slot of no slot records is refusal 3", WHICH, 32, 0, 3},
-    {"which slot of T", WHICH, 32, 16, 0},
-    {"a half tick of 0 bytes is refusal 1", COUNT, 0, 16, 1},
-    {"a half tick of 31 bytes is refusal 1", COUNT, 31, 16, 1},
-    {"a half tick of 33 bytes is refusal 1", COUNT, 33, 16, 1},
-    {"a half tick with slots of 7 bytes is refusal 1", COUNT, 32, 7, 1},
-    {"a half tick with slots of 9 bytes is refusal 1", COUNT, 32, 9, 1},
+    {"which slot of T", WHICH, 32, RECORDS(2), 0},
+    {"a half tick of 0 bytes is refusal 1", COUNT, 0, RECORDS(2), 1},
+    {"a half tick of 31 bytes is refusal 1", COUNT, 31, RECORDS(2), 1},
+    {"a half tick of 33 bytes is refusal 1", COUNT, 33, RECORDS(2), 1},
+    {"a half tick with slots of 8 bytes is refusal 1", COUNT, 32, 8, 1},
+    {"a half tick with slots of 11 bytes is refusal 1", COUNT, 32, 11, 1},
+    {"a half tick with slots of 13 bytes is refusal 1", COUNT, 32, 13, 1},
+    {"a half tick with slots of 16 bytes is refusal 1", COUNT, 32, 16, 1},
     {"a half tick of no bytes at all is refusal 1", COUNT, 0, 0, 1},
     {"a half tick with no slot records is refusal 3", COUNT, 32, 0, 3},
+};
+
+/* An answer with a margin below zero, by its low byte; and a number that refuses, when judged and at half tick 9. */
+#define ANSWER(id, firm, worst, at, low) {id, 0, 0, 0, 0, 0, firm, 0, worst, 0, 0, 0, at, 0, 0, 0, low, 255, 255, 255}
+#define REFUSED(id, number) {id, 0, 0, 0, number}, 9, 0, 0, 0
+
+static const struct hand_pair pairs[] = {
+    {"P11 alone, and with others before, between and behind", {1, 55, 27, 70, 70, 3, 10, 0, 2},
+     SLOTS({11, 21, 1}, {33, 43, 1}), 2, 7,
+     SLOTS({0, 55, 1}, {40, 41, 1}, {0, 5, 2}, {5, 11, 3}, {11, 21, 1}, {21, 22, 2}, {25, 30, 257}, {33, 43, 1},
+           {43, 55, 2}),
+     ANSWER(1, 1, 7, 39, 249), 39, 7, 46, -8},
+    {"P5 with two others, and with the two exchanged", T_OF(7, 0, 3), SLOTS({0, 8, 7}, {8, 9, 1}, {9, 10, 2}), 0, 3,
+     SLOTS({0, 8, 7}, {8, 9, 2}, {9, 10, 1}), ANSWER(7, 0, 2, 9, 255), 9, 2, 7, -1},
+    {"P9 with another's slot of two ticks, and of one", T_OF(7, 1, 3),
+     SLOTS({4, 8, 7}, {0, 4, 7}, {4, 8, 7}, {8, 10, 9}), 0, 3, SLOTS({0, 4, 7}, {4, 8, 7}, {9, 10, 9}),
+     ANSWER(7, 0, 2, 9, 255), 9, 2, 7, -1},
+    {"another's slot amid T's, and none", T_OF(7, 0, 3), SLOTS({0, 4, 7}, {4, 6, 9}, {6, 8, 7}), 3, 2,
+     SLOTS({0, 1, 9}, {2, 3, 9}, {0, 4, 7, 1}, {0, 4, 7}, {6, 8, 7}), ANSWER(7, 0, 2, 1, 254), 9, 2, 4, -4},
+    {"P10 where another has all ticks, and on no slots", {7, 10, 1, 5, 5, 1, 3, 0, 1}, SLOTS({0, 10, 9}), 0, 0, BARE,
+     ANSWER(7, 0, 3, 0, 255), 3, 3, 0, -2},
+    {"each other one of 512 slots, and of 511", {7, 512, 1, 1, 2, 0, 2, 0, 512}, by_turns, 512, 0, 511, by_turns, 511,
+     ANSWER(7, 1, 2, 1, 255), 2, 2, 0, -2},
+    {"e 0 alone, and beside another", T(0, 1), T_SLOT, 1, 2, SLOTS({8, 8, 7}, {0, 8, 7}, {8, 10, 9}), REFUSED(7, 6)},
 };
 
 size_t hand_count(void)
@@ -360,31 +551,39 @@ size_t hand_count(void)
            LENGTH(sites) + LENGTH(tables) + LENGTH(lengths);
 }
 
-static void put_slot(uint8_t *bytes, const uint32_t slot[2])
+static void put_slot(uint8_t *bytes, const uint32_t slot[SLOT_FIELDS])
 {
-    put_number(bytes, slot[0], 4);
-    put_number(bytes + 4, slot[1], 4);
+    put_number(bytes, slot[SLOT_START], 4);
+    put_number(bytes + 4, slot[SLOT_END], 4);
+    put_number(bytes + OWNER_AT, slot[SLOT_OWNER], 2);
+    put_number(bytes + SPARE_AT, slot[SLOT_SPARE], 2);
 }
 
-static void put_slots(struct input *input, const uint32_t (*slots)[2], size_t records)
+static void put_slots(struct input *input, const uint32_t (*slots)[SLOT_FIELDS], size_t records)
 {
     input->slots_len = records * SLOT_BYTES;
     for (size_t i = 0; i < records; i++)
         put_slot(input->slots + i * SLOT_BYTES, slots[i]);
 }
 
-static void put_task(struct input *input, const struct hand_task *hand)
+static void put_task(struct input *input, const struct task *task, const uint32_t (*slots)[SLOT_FIELDS],
+                     size_t records)
 {
-    task_to_bytes(&hand->task, input->task);
+    task_to_bytes(task, input->task);
     input->task_len = TASK_BYTES;
-    put_slots(input, hand->slot, hand->task.count);
+    put_slots(input, slots, records);
+}
+
+static void put_t(struct input *input)
+{
+    put_task(input, &tasks[0].task, tasks[0].slots, tasks[0].records);
 }
 
 static const char *judge_case(const struct hand_task *hand, struct input *input, struct expected *said)
 {
     input->kind = JUDGE;
     input->reply_len = ANSWER_BYTES;
-    put_task(input, hand);
+    put_task(input, &hand->task, hand->slots, hand->records);
     put_number(said->reply, hand->task.id, 4);
     put_number(said->reply + 4, hand->number, 2);
     put_number(said->reply + 6, hand->firm, 2);
@@ -405,7 +604,7 @@ static void fill_replies(struct input *input, struct expected *said)
 static const char *reply_case(const struct hand_reply *hand, struct input *input, struct expected *said)
 {
     static const uint8_t answer[ANSWER_BYTES] = {7, 0, 0, 0, 0, 0, 0, 0, 2, 0, 0, 0, 9, 0, 0, 0, 255, 255, 255, 255};
-    put_task(input, &tasks[0]);
+    put_t(input);
     fill_replies(input, said);
     input->kind = JUDGE;
     input->null_when_empty = true;
@@ -430,7 +629,7 @@ static void say_refusal(struct expected *said, uint32_t number)
 
 static const char *point_case(const struct hand_point *hand, struct input *input, struct expected *said)
 {
-    put_task(input, &tasks[0]);
+    put_t(input);
     input->kind = COUNT;
     input->offset = hand->offset;
     say_point(said, hand->count, hand->supply, hand->margin);
@@ -439,8 +638,8 @@ static const char *point_case(const struct hand_point *hand, struct input *input
 
 static const char *round_case(const struct hand_round *hand, struct input *input, struct expected *said)
 {
-    const struct hand_task one_slot = {.task = {7, 3, 1, 1, hand->h, 0, hand->k, 0, 1}, .slot = {{0, 1}}};
-    put_task(input, &one_slot);
+    const struct task task = {7, 3, 1, 1, hand->h, 0, hand->k, 0, 1};
+    put_task(input, &task, SLOTS({0, 1, 7}));
     input->kind = COUNT;
     input->offset = hand->offset;
     say_point(said, hand->drops, round_points[hand->offset].supply, round_points[hand->offset].margin);
@@ -450,9 +649,7 @@ static const char *round_case(const struct hand_round *hand, struct input *input
 static const char *refusal_case(const struct hand_refusal *hand, struct input *input, struct expected *said)
 {
     input->kind = COUNT;
-    task_to_bytes(&hand->task, input->task);
-    input->task_len = TASK_BYTES;
-    put_slots(input, hand->slots, hand->records);
+    put_task(input, &hand->task, hand->slots, hand->records);
     input->offset = hand->offset;
     say_refusal(said, hand->number);
     return hand->name;
@@ -491,28 +688,28 @@ static const char *site_case(const struct hand_site *hand, struct input *input, 
 
 static const char *table_case(const struct hand_table *hand, struct input *input, struct expected *said)
 {
-    struct task task = {7, hand->w, hand->e, 5, 14, 1, 2, hand->first, hand->count};
+    const struct task task = {hand->id, hand->w, hand->e, 5, 14, 1, 2, hand->first, hand->count};
     input->kind = WHICH;
-    task_to_bytes(&task, input->task);
-    input->task_len = TASK_BYTES;
-    put_slots(input, hand->slots, hand->records);
+    put_task(input, &task, hand->slots, hand->records);
     said->result = PACKED(hand->number, hand->place);
     return hand->name;
 }
 
 static const char *length_case(const struct hand_length *hand, struct input *input, struct expected *said)
 {
-    put_task(input, &tasks[0]);
-    put_slot(input->slots + SLOT_BYTES, tasks[0].slot[0]);
+    put_t(input);
+    put_slot(input->slots + SLOT_BYTES, tasks[0].slots[0]);
+    fill_replies(input, said);
     input->kind = hand->kind;
     input->offset = 9;
     input->null_when_empty = true;
     input->task_len = hand->task_len;
     input->slots_len = hand->slots_len;
+    input->reply_len = ANSWER_BYTES;
     if (hand->kind == COUNT)
         say_refusal(said, hand->number);
     else
-        said->result = PACKED(hand->number, 0);
+        said->result = hand->kind == WHICH ? PACKED(hand->number, 0) : hand->number;
     return hand->name;
 }
 
@@ -545,4 +742,33 @@ const char *hand_case(size_t i, struct input *input, struct expected *said)
     if (i < LENGTH(tables))
         return table_case(&tables[i], input, said);
     return length_case(&lengths[i - LENGTH(tables)], input, said);
+}
+
+/* ---- pairs of boards ---- */
+
+size_t hand_pair_count(void)
+{
+    return LENGTH(pairs);
+}
+
+const char *hand_pair(size_t i, struct input *one, struct input *other, struct expected *judged,
+                      struct expected *counted)
+{
+    const struct hand_pair *hand = &pairs[i];
+    struct task twin = hand->task;
+    twin.first = hand->first;
+    twin.count = hand->count;
+    *one = (struct input){.slots = one->slots, .offset = hand->offset, .reply_len = ANSWER_BYTES};
+    *other = (struct input){.slots = other->slots, .offset = hand->offset, .reply_len = ANSWER_BYTES};
+    *judged = *counted = (struct expected){0};
+    put_task(one, &hand->task, hand->slots, hand->records);
+    put_task(other, &twin, hand->other_slots, hand->other_records);
+    const uint32_t number = get_number(hand->answer + 4, 2);
+    memcpy(judged->reply, hand->answer, ANSWER_BYTES);
+    judged->result = number;
+    if (number == 0)
+        say_point(counted, hand->drops, hand->supply, hand->margin);
+    else
+        say_refusal(counted, number);
+    return hand->name;
 }

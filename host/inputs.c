@@ -23,7 +23,8 @@ enum {
     EDGE_EVERY = 200,
     SITE_EVERY = 50,
     EDGE_SITE_EVERY = 650,
-    WHICH_EVERY = 20
+    WHICH_EVERY = 20,
+    PAIR_EVERY = 25
 };
 
 const uint32_t wheel_edges[WHEEL_EDGES] = {255,  256,  257,  2047, 2048, 2049,  4095,
@@ -32,7 +33,43 @@ const uint32_t wheel_edges[WHEEL_EDGES] = {255,  256,  257,  2047, 2048, 2049,  
 /* Strips of the uses: few, more of them while a byte still counts them, and as many as no byte does. */
 enum { FEW_STRIPS = 4, SOME_STRIPS = 64, MANY_STRIPS_FROM = 256 };
 
+/* Slots of the task's own in the uses: many, or the most that leave a tick between each two. */
+enum { MANY_SLOTS = 64 };
+
+static uint32_t most_slots(uint32_t w)
+{
+    return w / 2 < SLOTS_MAX ? w / 2 : SLOTS_MAX;
+}
+
 static const uint64_t two_to_32 = 4294967296u;
+
+/* ---- boards ---- */
+
+uint32_t owner_at(const uint8_t *slots, size_t record)
+{
+    return get_number(slots + record * SLOT_BYTES + OWNER_AT, 2);
+}
+
+uint32_t owned_slots(const struct task *task, const uint8_t *slots)
+{
+    uint32_t owned = 0;
+    for (uint32_t i = 0; i < task->count; i++)
+        owned += owner_at(slots, task->first + i) == task->id;
+    return owned;
+}
+
+void wheel_of_board(struct wheel *wheel, const struct task *task, const uint8_t *slots)
+{
+    wheel->w = task->w;
+    memset(wheel->usable, 0, task->w);
+    for (uint32_t i = 0; i < task->count; i++) {
+        const uint8_t *slot = slots + (size_t)(task->first + i) * SLOT_BYTES;
+        const uint32_t start = get_number(slot, 4), end = get_number(slot + 4, 4);
+        memset(wheel->usable + start, 1, end - start);
+    }
+}
+
+/* ---- numbers ---- */
 
 uint64_t number_argument(const char *program, const char *text)
 {
@@ -203,20 +240,70 @@ static void stretch(struct rng *rng, struct strips *s, enum field field, uint64_
     *field_of(s, field) = pick(rng, edges, LENGTH(edges));
 }
 
+/* ---- owners ---- */
+
+/* Any id that a task may have, or one at the bounds of its bytes. */
+static uint32_t some_id(struct rng *rng)
+{
+    const uint64_t edges[] = {0, 0, 1, 255, 256, ID_MAX - 1, ID_MAX, ID_MAX};
+    return (uint32_t)(one_in(rng, 3) ? pick(rng, edges, LENGTH(edges)) : below(rng, ID_MAX + 1));
+}
+
+/* Another owner than the id. Some differ from it in one byte alone, or in one bit. */
+static uint32_t some_other(struct rng *rng, uint32_t id)
+{
+    const uint32_t byte = 1 + (uint32_t)below(rng, 255);
+    switch (below(rng, 5)) {
+    case 0:
+        return id ^ byte;
+    case 1:
+        return id ^ byte << 8;
+    case 2:
+        return id ^ 1u << below(rng, 16);
+    default:
+        return (id + 1 + (uint32_t)below(rng, ID_MAX)) % (ID_MAX + 1);
+    }
+}
+
+/* An id that no task may have. The low 16 bits of some are the id, which has slots. */
+static uint32_t some_bad_id(struct rng *rng, uint32_t id, uint64_t way)
+{
+    const uint32_t past = ID_MAX + 1, low = id % past;
+    switch (way % 4) {
+    case 0:
+        return past;
+    case 1:
+        return past + low;
+    case 2:
+        return past * (1 + (uint32_t)below(rng, ID_MAX)) + low;
+    default:
+        return UINT32_MAX;
+    }
+}
+
 /* ---- slot tables ---- */
+
+struct slot {
+    uint32_t start, end, owner, spare;
+};
 
 struct table {
     uint32_t n, room; /* room is now and then one slot too many */
-    uint32_t slot[SLOTS_MAX + 1][2];
+    uint32_t owner;   /* of the slots that are put next */
+    struct slot slot[SLOTS_MAX + 1];
 };
+
+static void open_table(struct table *table, uint32_t room, uint32_t owner)
+{
+    table->n = 0;
+    table->room = room;
+    table->owner = owner;
+}
 
 static void put_slot(struct table *table, uint64_t start, uint64_t end)
 {
-    if (start < end && table->n < table->room) {
-        table->slot[table->n][0] = (uint32_t)start;
-        table->slot[table->n][1] = (uint32_t)end;
-        table->n++;
-    }
+    if (start < end && table->n < table->room)
+        table->slot[table->n++] = (struct slot){(uint32_t)start, (uint32_t)end, table->owner, 0};
 }
 
 /* Slots with gaps; a gap of 0 makes two touch. */
@@ -245,10 +332,22 @@ static void even(struct rng *rng, struct table *table, uint64_t w, uint64_t most
         put_slot(table, w * i / n, w * i / n + length);
 }
 
+/* A slot anywhere between two ticks; it may fill all there is. */
+static void put_between(struct rng *rng, struct table *table, uint64_t from, uint64_t to)
+{
+    uint64_t start = from + below(rng, to - from);
+    put_slot(table, start, start + 1 + below(rng, to - start));
+}
+
+/* n slots, each of them anywhere in its own n-th of the wheel. */
+static void strewn(struct rng *rng, struct table *table, uint64_t w, uint64_t n)
+{
+    for (uint64_t i = 0; i < n; i++)
+        put_between(rng, table, w * i / n, w * (i + 1) / n);
+}
+
 static void some_table(struct rng *rng, struct table *table, uint64_t w)
 {
-    table->n = 0;
-    table->room = SLOTS_MAX + one_in(rng, 20);
     switch (below(rng, 8)) {
     case 0:
         if (one_in(rng, 2))
@@ -266,33 +365,99 @@ static void some_table(struct rng *rng, struct table *table, uint64_t w)
     }
 }
 
-/* What can be wrong with a slot, refusals 15 to 17, as a set. No slot behind a good one has all three. */
-enum { EMPTY = 1, PAST = 2, EARLY = 4, ALL_TROUBLES = EMPTY | PAST | EARLY };
+/* Slots of other owners in a gap that the task's leave: none, one that fills it, a few or as many as go in. */
+static void fill_gap(struct rng *rng, struct table *table, uint32_t id, uint64_t from, uint64_t to)
+{
+    const uint64_t gap = to - from;
+    if (gap == 0 || one_in(rng, 4))
+        return;
+    if (one_in(rng, 3)) {
+        table->owner = some_other(rng, id);
+        put_slot(table, from, to);
+        return;
+    }
+    uint64_t n = at_most(1 + below(rng, one_in(rng, 12) ? SLOTS_MAX : 3), gap);
+    for (uint64_t i = 0; i < n && table->n < table->room; i++) {
+        table->owner = some_other(rng, id);
+        put_between(rng, table, from + gap * i / n, from + gap * (i + 1) / n);
+    }
+}
+
+/* Others get slots between the task's, before the first and behind the last, as far as the table has room. */
+static void share(struct rng *rng, struct table *table, uint64_t w, uint32_t id)
+{
+    const struct table own = *table;
+    uint64_t at = 0;
+    table->n = 0;
+    for (uint32_t i = 0; i <= own.n; i++) {
+        table->room = own.room - (own.n - i); /* the task's own are still to come */
+        fill_gap(rng, table, id, at, i < own.n ? own.slot[i].start : w);
+        table->room = own.room;
+        if (i < own.n) {
+            table->slot[table->n++] = own.slot[i];
+            at = own.slot[i].end;
+        }
+    }
+}
+
+/* Gives the slots of a whole board to the task and to others; now and then all to the task, or all to others. */
+static void hand_out(struct rng *rng, struct table *table, uint32_t id)
+{
+    const uint64_t shares[] = {0, 1, 4, 4, 7, 8, 8};
+    const uint64_t in_eight = pick(rng, shares, LENGTH(shares));
+    for (uint32_t i = 0; i < table->n; i++)
+        table->slot[i].owner = below(rng, 8) < in_eight ? id : some_other(rng, id);
+}
+
+/* Mostly others have slots beside the task's; now and then the board is the task's alone, or only others'. */
+static void some_owners(struct rng *rng, struct table *table, uint64_t w, uint32_t id)
+{
+    if (one_in(rng, 20))
+        for (uint32_t i = 0; i < table->n; i++)
+            table->slot[i].owner = some_other(rng, id);
+    if (!one_in(rng, 8))
+        share(rng, table, w, id);
+}
+
+/* What can be wrong with a slot, refusals 15 to 18, as a set. No slot behind a good one has the first three. */
+enum { EMPTY = 1, PAST = 2, EARLY = 4, SPARE = 8, ALL_TROUBLES = EMPTY | PAST | EARLY | SPARE };
+
+static void use_spare(struct rng *rng, struct slot *slot)
+{
+    const uint32_t bit = 1u << below(rng, 8);
+    const uint64_t spares[] = {bit, bit << 8, bit << 8 | bit};
+    slot->spare = (uint32_t)pick(rng, spares, LENGTH(spares));
+}
 
 /* Spoils a slot, often by one tick. The first one can't be early: nothing is before it. */
 static void spoil(struct rng *rng, struct table *table, uint64_t place, unsigned troubles, uint64_t w)
 {
-    uint32_t *slot = table->slot[place];
+    struct slot *slot = &table->slot[place];
     const uint64_t ends[] = {w + 1, w + 1, w + 2, UINT32_MAX / 2 + 1, UINT32_MAX};
     if (troubles & PAST)
-        slot[1] = (uint32_t)at_most(pick(rng, ends, LENGTH(ends)), UINT32_MAX);
+        slot->end = (uint32_t)at_most(pick(rng, ends, LENGTH(ends)), UINT32_MAX);
     if (troubles & EARLY && place > 0)
-        slot[0] = table->slot[place - 1][1] - 1;
-    const uint64_t starts[] = {slot[1], slot[1], slot[1] + UINT64_C(1), UINT32_MAX};
+        slot->start = table->slot[place - 1].end - 1;
+    const uint64_t starts[] = {slot->end, slot->end, slot->end + UINT64_C(1), UINT32_MAX};
     if (troubles & EMPTY && troubles & EARLY)
-        slot[1] = slot[0] - (slot[0] > 0 && one_in(rng, 2));
+        slot->end = slot->start - (slot->start > 0 && one_in(rng, 2));
     else if (troubles & EMPTY)
-        slot[0] = (uint32_t)at_most(pick(rng, starts, LENGTH(starts)), UINT32_MAX);
+        slot->start = (uint32_t)at_most(pick(rng, starts, LENGTH(starts)), UINT32_MAX);
+    if (troubles & SPARE)
+        use_spare(rng, slot);
 }
 
-/* Spoils some slot, or only makes it longer, which may be fine. */
+/* Spoils some slot, in one way or several, or only makes it longer, which may be fine. */
 static void spoil_slot(struct rng *rng, struct table *table, uint32_t w)
 {
     uint64_t place = below(rng, table->n);
+    unsigned troubles = 1u << below(rng, 4);
+    if (one_in(rng, 3))
+        troubles |= (unsigned)below(rng, ALL_TROUBLES + 1);
     if (one_in(rng, 7))
-        table->slot[place][1] = w;
+        table->slot[place].end = w;
     else
-        spoil(rng, table, place, 1 + (unsigned)below(rng, ALL_TROUBLES), w);
+        spoil(rng, table, place, troubles, w);
 }
 
 /* ---- judging and counting ---- */
@@ -301,8 +466,14 @@ struct draft {
     struct task task;
     struct strips strips;
     struct table table;
-    uint32_t after; /* records behind the task's own */
+    uint32_t after; /* records behind the task's board */
 };
+
+static void open_draft(struct rng *rng, struct draft *draft, uint32_t room)
+{
+    draft->task.id = some_id(rng);
+    open_table(&draft->table, room, draft->task.id);
+}
 
 /* Short enough to follow D to its bound with a large input's work. */
 static const uint64_t tiny_wheel = 12;
@@ -341,20 +512,30 @@ static uint64_t some_wheel(struct rng *rng, uint64_t work)
     return 1 + below(rng, one_in(rng, 6) ? 200 : 24);
 }
 
-static void wheel_of_table(struct wheel *wheel, const struct table *table, uint32_t w)
+static void wheel_of_draft(struct wheel *wheel, const struct draft *draft)
 {
-    wheel->w = w;
-    memset(wheel->usable, 0, w);
-    for (uint32_t i = 0; i < table->n; i++)
-        memset(wheel->usable + table->slot[i][0], 1, table->slot[i][1] - table->slot[i][0]);
+    wheel->w = draft->task.w;
+    memset(wheel->usable, 0, wheel->w);
+    for (uint32_t i = 0; i < draft->table.n; i++) {
+        const struct slot *slot = &draft->table.slot[i];
+        if (slot->owner == draft->task.id)
+            memset(wheel->usable + slot->start, 1, slot->end - slot->start);
+    }
 }
 
-static void draft_task(struct rng *rng, struct draft *draft, enum kind kind, uint64_t work)
+/* The wheel, and the task's own slots alone. */
+static void draft_own(struct rng *rng, struct draft *draft, uint32_t room, uint64_t work)
+{
+    open_draft(rng, draft, room);
+    draft->task.w = (uint32_t)some_wheel(rng, work);
+    some_table(rng, &draft->table, draft->task.w);
+}
+
+static void draft_strips(struct rng *rng, struct draft *draft, enum kind kind, uint64_t work)
 {
     struct strips *s = &draft->strips;
     struct wheel wheel;
-    uint64_t w = some_wheel(rng, work);
-    some_table(rng, &draft->table, w);
+    const uint64_t w = draft->task.w;
     s->h = some_period(rng, w);
     s->D = some_deadline(rng, w, s->h);
     if (work == large_work && w <= tiny_wheel)
@@ -365,9 +546,38 @@ static void draft_task(struct rng *rng, struct draft *draft, enum kind kind, uin
         trim(s, w, 1, work);
     else
         trim_count(s, work);
-    wheel_of_table(&wheel, &draft->table, (uint32_t)w);
+    wheel_of_draft(&wheel, draft);
     tune(rng, &wheel, s, kind == JUDGE ? work : huge_work); /* m plays no part in a count */
-    draft->task.w = (uint32_t)w;
+}
+
+static void draft_task(struct rng *rng, struct draft *draft, enum kind kind, uint64_t work)
+{
+    draft_own(rng, draft, SLOTS_MAX + one_in(rng, 20), work);
+    some_owners(rng, &draft->table, draft->task.w, draft->task.id);
+    draft_strips(rng, draft, kind, work);
+}
+
+/* Records about as many as a grant may have marks, a byte counts or a board holds, with a few ticks for each. */
+static uint64_t some_crowd(struct rng *rng, struct draft *draft)
+{
+    const uint64_t counts[] = {GRANT_SLOTS_MAX, GRANT_SLOTS_MAX + 1, 255, 256, 257,
+                               SLOTS_MAX - 1,   SLOTS_MAX,           SLOTS_MAX};
+    uint64_t n = pick(rng, counts, LENGTH(counts));
+    draft->task.w = (uint32_t)(one_in(rng, 12) ? WHEEL_MAX : n + 1 + below(rng, 4 * n));
+    return n;
+}
+
+static void draft_crowd(struct rng *rng, struct draft *draft, enum kind kind)
+{
+    open_draft(rng, draft, SLOTS_MAX + 1);
+    uint64_t n = some_crowd(rng, draft);
+    n += n == SLOTS_MAX && one_in(rng, 3);
+    if (one_in(rng, 4))
+        full(&draft->table, draft->task.w, n);
+    else
+        strewn(rng, &draft->table, draft->task.w, n);
+    hand_out(rng, &draft->table, draft->task.id);
+    draft_strips(rng, draft, kind, small_work);
 }
 
 /* A tick, often one where the wheel or an array may end. */
@@ -378,20 +588,20 @@ static uint64_t some_tick(struct rng *rng, uint64_t w)
 }
 
 /*
- * A wheel that is full but for two ticks, and a period that carries a strip
- * from one to the other, or just beside: two drops meet at one or two half
- * ticks only, so a single wrong place of a large wheel shows.
+ * A wheel that is full but for two ticks, which others may have, and a period
+ * that carries a strip from one to the other, or just beside: two drops meet at
+ * one or two half ticks only, so a single wrong place of a large wheel shows.
  */
 static void draft_holes(struct rng *rng, struct draft *draft, uint64_t w)
 {
     struct strips *s = &draft->strips;
     uint64_t from = some_tick(rng, w), to = some_tick(rng, w), beside = below(rng, 3);
     uint64_t low = at_most(from, to), high = from + to - low;
-    draft->table.n = 0;
-    draft->table.room = SLOTS_MAX;
+    open_draft(rng, draft, SLOTS_MAX);
     put_slot(&draft->table, 0, low);
     put_slot(&draft->table, low + 1, high);
     put_slot(&draft->table, high + 1, w);
+    share(rng, &draft->table, w, draft->task.id);
     s->h = (to + 2 * w - from - 1 + beside) % w;
     s->h += w * (3 + below(rng, 3)); /* at least any D below */
     s->D = s->e = 1 + below(rng, 3);
@@ -400,15 +610,18 @@ static void draft_holes(struct rng *rng, struct draft *draft, uint64_t w)
     draft->task.w = (uint32_t)w;
 }
 
-/* The most slots, with a tick or more between them and behind the last, and no tick to spare for a strip: some drop. */
-static void draft_gaps(struct rng *rng, struct draft *draft, uint64_t w, uint64_t k)
+/*
+ * So many slots of the task's, at most half as many as ticks, with a tick or more between them and behind the last;
+ * and no tick to spare for a strip: some drop.
+ */
+static void draft_gaps(struct rng *rng, struct draft *draft, uint64_t w, uint64_t slots, uint64_t k)
 {
     struct strips *s = &draft->strips;
-    uint64_t length = 1 + below(rng, w / SLOTS_MAX - 1);
-    draft->table.n = 0;
-    draft->table.room = SLOTS_MAX;
-    for (uint64_t i = 0; i < SLOTS_MAX; i++)
-        put_slot(&draft->table, w * i / SLOTS_MAX, w * i / SLOTS_MAX + length);
+    uint64_t length = 1 + below(rng, w / slots - 1);
+    open_draft(rng, draft, SLOTS_MAX);
+    for (uint64_t i = 0; i < slots; i++)
+        put_slot(&draft->table, w * i / slots, w * i / slots + length);
+    share(rng, &draft->table, w, draft->task.id);
     s->D = s->e = 1 + below(rng, 3);
     s->h = s->D + below(rng, 3 * w);
     s->k = k;
@@ -421,9 +634,9 @@ static void draft_turns(struct rng *rng, struct draft *draft)
 {
     struct strips *s = &draft->strips;
     uint64_t w = 1 + below(rng, 3), two_bytes = 65536;
-    draft->table.n = 0;
-    draft->table.room = SLOTS_MAX;
+    open_draft(rng, draft, SLOTS_MAX);
     put_slot(&draft->table, 0, 1 + below(rng, w));
+    share(rng, &draft->table, w, draft->task.id);
     s->D = 3 * two_bytes + below(rng, two_bytes);
     s->h = s->D + below(rng, w + 1);
     s->e = 1 + below(rng, two_bytes);
@@ -435,9 +648,8 @@ static void draft_turns(struct rng *rng, struct draft *draft)
 static void place_slots(struct rng *rng, struct draft *draft)
 {
     struct task *task = &draft->task;
-    task->id = (uint32_t)draw(rng);
     task->first = (uint32_t)below(rng, one_in(rng, 1000) ? 65536 : 4);
-    if (one_in(rng, 2000))
+    if (one_in(rng, 600))
         task->first = 65535;
     task->count = draft->table.n;
     draft->after = (uint32_t)below(rng, 3);
@@ -449,20 +661,24 @@ static void damage_draft(struct rng *rng, struct draft *draft)
     struct task *task = &draft->task;
     const uint64_t wheels[] = {0, WHEEL_MAX, WHEEL_MAX + 1, UINT32_MAX};
     const uint64_t counts[] = {SLOTS_MAX, SLOTS_MAX + 1, 65535, task->count + 1};
-    switch (below(rng, 10)) {
+    switch (below(rng, 12)) {
     case 0:
         task->w = (uint32_t)pick(rng, wheels, LENGTH(wheels));
         break;
     case 1:
         task->count = (uint32_t)pick(rng, counts, LENGTH(counts));
-        draft->after += one_in(rng, 2) ? 70 : 0;
+        draft->after += one_in(rng, 2) ? SLOTS_MAX + 6 : 0;
         break;
     case 2:
         task->first = one_in(rng, 2) ? 65535 : task->first + 1;
         task->first = (uint32_t)at_most(task->first, 65535);
         break;
     case 3:
+        task->id = one_in(rng, 6) ? some_id(rng) : some_bad_id(rng, task->id, below(rng, 4));
+        break;
     case 4:
+    case 5:
+    case 6:
         if (draft->table.n > 0)
             spoil_slot(rng, &draft->table, task->w);
         break;
@@ -471,22 +687,41 @@ static void damage_draft(struct rng *rng, struct draft *draft)
     }
 }
 
-static void put_table(uint8_t *slots, const struct table *table)
+static void put_record(uint8_t *record, const struct slot *slot)
 {
-    for (uint32_t i = 0; i < table->n; i++) {
-        put_number(slots + i * SLOT_BYTES, table->slot[i][0], 4);
-        put_number(slots + i * SLOT_BYTES + 4, table->slot[i][1], 4);
-    }
+    put_number(record, slot->start, 4);
+    put_number(record + 4, slot->end, 4);
+    put_number(record + OWNER_AT, slot->owner, 2);
+    put_number(record + SPARE_AT, slot->spare, 2);
 }
 
-/* Lays out the slot buffer: strangers before `first`, the table, strangers after. */
+/*
+ * The board. The records beside it, if there are any, are other boards'; half of them have the task's id as owner, and
+ * would fit.
+ */
+static void put_board(struct rng *rng, uint8_t *board, const struct draft *draft, bool before, bool behind)
+{
+    const struct table *table = &draft->table;
+    const uint32_t w = draft->task.w, start = table->n > 0 ? table->slot[0].start : 0;
+    const uint32_t end = table->n > 0 ? table->slot[table->n - 1].end : w;
+    const struct slot ahead = {0, start > 0 ? start : w, draft->task.id, 0};
+    const struct slot after = {end < w ? end : 0, w, draft->task.id, 0};
+    for (uint32_t i = 0; i < table->n; i++)
+        put_record(board + i * SLOT_BYTES, &table->slot[i]);
+    if (before && one_in(rng, 2))
+        put_record(board - SLOT_BYTES, &ahead);
+    if (behind && one_in(rng, 2))
+        put_record(board + table->n * SLOT_BYTES, &after);
+}
+
+/* Lays out the slot buffer: strangers before `first`, the board, strangers after. */
 static void lay_slots(struct rng *rng, struct input *input, const struct draft *draft, size_t first)
 {
     size_t records = at_most(first + draft->table.n + draft->after, SLOT_RECORDS_MAX);
     scribble(rng, input->slots, at_most(records, 256) * SLOT_BYTES);
     if (records > 256)
         memset(input->slots + 256 * SLOT_BYTES, (int)below(rng, 256), (records - 256) * SLOT_BYTES);
-    put_table(input->slots + first * SLOT_BYTES, &draft->table);
+    put_board(rng, input->slots + first * SLOT_BYTES, draft, first > 0, records > first + draft->table.n);
     input->slots_len = records * SLOT_BYTES;
 }
 
@@ -499,23 +734,36 @@ static void strips_into_task(struct task *task, const struct strips *s)
     task->k = (uint32_t)s->k;
 }
 
+/* Good records, without a damage to either. */
+static void lay_draft(struct rng *rng, struct input *input, struct draft *draft)
+{
+    place_slots(rng, draft);
+    strips_into_task(&draft->task, &draft->strips);
+    task_to_bytes(&draft->task, input->task);
+    input->task_len = TASK_BYTES;
+    lay_slots(rng, input, draft, draft->task.first);
+}
+
 static void flip_bit(struct rng *rng, uint8_t *bytes, size_t n)
 {
     uint8_t *byte = bytes + below(rng, n);
     *byte ^= (uint8_t)(1u << below(rng, 8));
 }
 
-/* Ways 0 to 2: longer by a part record, shorter, none. */
-enum { SLOTS_LENGTHS = 3 };
+/* Ways 0 to 3: longer by a part record, shorter, eight bytes for each record, none. */
+enum { SLOTS_LENGTHS = 4 };
 
 static void damage_slots_length(struct rng *rng, struct input *input, uint64_t way)
 {
     switch (way) {
     case 0:
-        input->slots_len = at_most(input->slots_len + 1 + below(rng, 7), SLOTS_ROOM);
+        input->slots_len = at_most(input->slots_len + 1 + below(rng, SLOT_BYTES - 1), SLOTS_ROOM);
         break;
     case 1:
-        input->slots_len -= at_most(1 + below(rng, 8), input->slots_len);
+        input->slots_len -= at_most(1 + below(rng, SLOT_BYTES), input->slots_len);
+        break;
+    case 2:
+        input->slots_len = input->slots_len / SLOT_BYTES * 8;
         break;
     default:
         input->slots_len = 0;
@@ -574,21 +822,31 @@ static size_t some_reply_length(struct rng *rng)
     return one_in(rng, 5) ? pick(rng, lengths, LENGTH(lengths)) : ANSWER_BYTES;
 }
 
+/* Gives the work that the draft is cut for. */
+static uint64_t draft_any(struct rng *rng, struct draft *draft, enum kind kind, uint64_t work)
+{
+    if (work == small_work && one_in(rng, 60)) {
+        draft_holes(rng, draft, one_in(rng, 2) ? WHEEL_MAX : 1 + at_most(large_wheel(rng), WHEEL_MAX - 1));
+        return medium_work;
+    }
+    if (work == small_work && one_in(rng, 500)) {
+        draft_turns(rng, draft);
+        return medium_work;
+    }
+    if (work == small_work && one_in(rng, 40))
+        draft_crowd(rng, draft, kind);
+    else
+        draft_task(rng, draft, kind, work);
+    return work;
+}
+
 static void make_task_input(struct rng *rng, struct input *input, uint64_t work)
 {
     struct draft draft;
-    if (work == small_work && one_in(rng, 60)) {
-        draft_holes(rng, &draft, one_in(rng, 2) ? WHEEL_MAX : 1 + at_most(large_wheel(rng), WHEEL_MAX - 1));
-        work = medium_work;
-    } else if (work == small_work && one_in(rng, 800)) {
-        draft_turns(rng, &draft);
-        work = medium_work;
-    } else {
-        draft_task(rng, &draft, input->kind, work);
-    }
+    work = draft_any(rng, &draft, input->kind, work);
     place_slots(rng, &draft);
     size_t first = draft.task.first;
-    bool vast = one_in(rng, 1500); /* enough records for any first and count */
+    bool vast = one_in(rng, 700); /* enough records for any first and count */
     if (vast) {
         draft.after = SLOT_RECORDS_MAX;
         draft.task.count = one_in(rng, 2) ? 65535 : draft.task.count;
@@ -610,15 +868,18 @@ static void make_task_input(struct rng *rng, struct input *input, uint64_t work)
     scribble(rng, input->reply, REPLY_ROOM);
 }
 
-/* ---- wheels at an edge: drops and grants are certain, and wheel and use go round, so that a short run meets each ---- */
+/* ---- wheels at an edge: drops and grants are certain; wheel and use go round, so that a short run meets each ---- */
 
-enum edge_use edge_use_of(const struct task *task)
+enum edge_use edge_use_of(const struct task *task, uint32_t owned)
 {
+    const bool many = task->k >= MANY_STRIPS_FROM;
     if (task->k <= FEW_STRIPS)
         return EDGE_FEW;
-    if (task->count < SLOTS_MAX || task->k < SOME_STRIPS)
+    if (owned < MANY_SLOTS || task->k < SOME_STRIPS)
         return EDGE_USES;
-    return task->k < MANY_STRIPS_FROM ? EDGE_SOME : EDGE_MANY;
+    if (owned < most_slots(task->w))
+        return many ? EDGE_MANY : EDGE_SOME;
+    return many ? EDGE_MOST_MANY : EDGE_MOST_SOME;
 }
 
 enum edge_use site_edge_use_of(const struct task *task)
@@ -626,27 +887,25 @@ enum edge_use site_edge_use_of(const struct task *task)
     return task->k < MANY_STRIPS_FROM ? EDGE_SITE : EDGE_SITE_MANY;
 }
 
-static void draft_edge(struct rng *rng, struct draft *draft, uint64_t w, enum edge_use use)
+static void draft_edge(struct rng *rng, struct draft *draft, uint32_t w, enum edge_use use)
 {
+    const bool most = use == EDGE_MOST_SOME || use == EDGE_MOST_MANY || (use == EDGE_COUNT && one_in(rng, 2));
+    const uint64_t slots = most ? most_slots(w) : MANY_SLOTS;
     if (use == EDGE_FEW)
         draft_holes(rng, draft, w);
-    else if (use == EDGE_MANY)
-        draft_gaps(rng, draft, w, MANY_STRIPS_FROM + below(rng, 64));
+    else if (use == EDGE_MANY || use == EDGE_MOST_MANY)
+        draft_gaps(rng, draft, w, slots, MANY_STRIPS_FROM + below(rng, 64));
     else
-        draft_gaps(rng, draft, w, SOME_STRIPS + below(rng, MANY_STRIPS_FROM - SOME_STRIPS));
+        draft_gaps(rng, draft, w, slots, SOME_STRIPS + below(rng, MANY_STRIPS_FROM - SOME_STRIPS));
 }
 
-static void make_edge_task(struct rng *rng, struct input *input, uint64_t w, enum edge_use use)
+static void make_edge_task(struct rng *rng, struct input *input, uint32_t w, enum edge_use use)
 {
     struct draft draft;
     input->kind = use == EDGE_COUNT ? COUNT : JUDGE;
     draft_edge(rng, &draft, w, use);
-    place_slots(rng, &draft);
-    strips_into_task(&draft.task, &draft.strips);
-    task_to_bytes(&draft.task, input->task);
-    input->task_len = TASK_BYTES;
-    lay_slots(rng, input, &draft, draft.task.first);
-    input->offset = 2 * w - 1 - below(rng, 2); /* behind the last slot, where the first strip drops */
+    lay_draft(rng, input, &draft);
+    input->offset = 2 * (uint64_t)w - 1 - below(rng, 2); /* behind the last slot, where the first strip drops */
     input->reply_len = ANSWER_BYTES;
     scribble(rng, input->reply, REPLY_ROOM);
 }
@@ -655,7 +914,7 @@ static void make_edge_task(struct rng *rng, struct input *input, uint64_t w, enu
 static void make_edge_grant(struct rng *rng, struct input *input, uint64_t w)
 {
     struct strips *s = &input->strips;
-    size_t n = 1 + below(rng, SLOTS_MAX);
+    size_t n = 1 + below(rng, GRANT_SLOTS_MAX);
     while (w % n != 0)
         n--;
     input->kind = GRANT;
@@ -671,7 +930,7 @@ static void make_edge_grant(struct rng *rng, struct input *input, uint64_t w)
 
 static void make_edge_input(struct rng *rng, struct input *input, uint64_t number)
 {
-    uint64_t w = wheel_edges[number % WHEEL_EDGES];
+    uint32_t w = wheel_edges[number % WHEEL_EDGES];
     enum edge_use use = (enum edge_use)(number / WHEEL_EDGES % EDGE_SITE);
     if (use == EDGE_GRANT)
         make_edge_grant(rng, input, w);
@@ -699,7 +958,7 @@ static void some_marks(struct rng *rng, uint8_t *marks, size_t n)
 /* The wheel that some of the first free slots would make: a task tuned to it is granted about as many. */
 static void wheel_of_some(struct rng *rng, struct wheel *wheel, const struct input *input)
 {
-    uint8_t taken[SLOTS_MAX] = {0};
+    uint8_t taken[GRANT_SLOTS_MAX] = {0};
     size_t n = 1 + below(rng, input->marks_len);
     memcpy(taken, input->marks, one_in(rng, 4) ? input->marks_len : n);
     wheel_of_grid(wheel, taken, input->marks_len, input->v);
@@ -707,7 +966,7 @@ static void wheel_of_some(struct rng *rng, struct wheel *wheel, const struct inp
 
 static void damage_grant(struct rng *rng, struct input *input)
 {
-    const uint64_t lengths[] = {0, SLOTS_MAX, SLOTS_MAX + 1, MARKS_ROOM};
+    const uint64_t lengths[] = {0, GRANT_SLOTS_MAX, GRANT_SLOTS_MAX + 1, MARKS_ROOM};
     const uint64_t n = input->marks_len > 0 ? input->marks_len : 1;
     /* The last four pass a test that looks at 32 bits, or at N * v after it wrapped. */
     const uint64_t slot_lengths[] = {0, WHEEL_MAX / n, WHEEL_MAX / n + 1, UINT64_MAX,
@@ -744,9 +1003,9 @@ static void make_grant_input(struct rng *rng, struct input *input, uint64_t work
 {
     struct strips *s = &input->strips;
     struct wheel wheel;
-    size_t n = 1 + below(rng, one_in(rng, 6) ? SLOTS_MAX : 8);
+    size_t n = 1 + below(rng, one_in(rng, 6) ? GRANT_SLOTS_MAX : 8);
     if (one_in(rng, 40))
-        n = SLOTS_MAX;
+        n = GRANT_SLOTS_MAX;
     uint64_t longest = work == small_work ? 4 : WHEEL_MAX / n;
     uint64_t v = one_in(rng, 40) ? WHEEL_MAX / n : 1 + below(rng, longest);
     input->marks_len = n;
@@ -784,45 +1043,51 @@ static const struct {
     {PAST, FIRST_SLOT},          {PAST, MIDDLE_SLOT},          {PAST, LAST_SLOT},
     {EARLY, MIDDLE_SLOT},        {EARLY, LAST_SLOT},           {EMPTY | PAST, FIRST_SLOT},
     {EMPTY | PAST, MIDDLE_SLOT}, {EMPTY | EARLY, MIDDLE_SLOT}, {EMPTY | EARLY, LAST_SLOT},
-    {PAST | EARLY, MIDDLE_SLOT}, {PAST | EARLY, LAST_SLOT},
+    {PAST | EARLY, MIDDLE_SLOT}, {PAST | EARLY, LAST_SLOT},    {SPARE, FIRST_SLOT},
+    {SPARE, MIDDLE_SLOT},        {SPARE, LAST_SLOT},           {EMPTY | SPARE, MIDDLE_SLOT},
+    {PAST | SPARE, FIRST_SLOT},  {EARLY | SPARE, MIDDLE_SLOT}, {EARLY | SPARE, LAST_SLOT},
 };
 
 /* What a table is like that is asked about. There the shapes go round, so that a short run meets each. */
 enum table_shape {
     SPOILT_TWICE = LENGTH(spoilt), /* below it: one slot is spoilt, as listed above */
     SPOILT_OFTEN,
+    SPOILT_NEXT, /* a spare byte, and no tick in the slot behind it */
     SLOTS_TOO_MANY,
     SLOTS_TOO_MANY_SPOILT,
     BAD_TABLES, /* what follows isn't done to the table itself */
     WHEEL_BAD = BAD_TABLES,
+    ID_BAD,
+    ID_BAD_TOO, /* and something else as well */
     RECORDS_TOO_FEW,
     TASK_LENGTH,
     SLOTS_LENGTH,
     BYTES_DAMAGED,
     NO_TABLE,
     STRANGER_BEFORE, /* a good slot that the task's first would clash with */
-    TABLE_SHAPES = 32 /* the others are good */
+    TABLE_SHAPES = 40 /* the others are good */
 };
 
 static uint64_t some_slots(struct rng *rng, uint64_t shape)
 {
-    const uint64_t counts[] = {1, 2, 3, 3, 4, 8, SLOTS_MAX - 1, SLOTS_MAX, SLOTS_MAX};
+    const uint64_t counts[] = {1, 2, 3, 3, 4, 8, GRANT_SLOTS_MAX, GRANT_SLOTS_MAX + 1,
+                               SLOTS_MAX - 1, SLOTS_MAX, SLOTS_MAX};
     if (shape == SLOTS_TOO_MANY || shape == SLOTS_TOO_MANY_SPOILT)
         return SLOTS_MAX + 1;
     return shape == NO_TABLE ? 0 : pick(rng, counts, LENGTH(counts));
 }
 
-/* A good table of n slots that fill the wheel or have gaps; the strips are cheap to judge or, half the time, bad. */
+/* A good board of n slots that fill the wheel or have gaps; the strips are cheap to judge or, half the time, bad. */
 static void draft_slots(struct rng *rng, struct draft *draft, uint64_t n)
 {
     struct strips *s = &draft->strips;
     uint64_t w = one_in(rng, 12) ? WHEEL_MAX : 2 * (n + 1) + below(rng, 3 * (n + 1));
-    draft->table.n = 0;
-    draft->table.room = SLOTS_MAX + 1;
+    open_draft(rng, draft, SLOTS_MAX + 1);
     if (n == 0 || one_in(rng, 2))
         full(&draft->table, w, n);
     else
         even(rng, &draft->table, w, n);
+    hand_out(rng, &draft->table, draft->task.id);
     s->h = 1 + below(rng, 40);
     s->D = 1 + below(rng, s->h);
     s->e = 1 + below(rng, s->D + 1);
@@ -842,6 +1107,7 @@ static uint64_t slots_to_spoil(struct rng *rng, uint64_t shape)
     case SPOILT_OFTEN:
         return 3 + below(rng, 4);
     case WHEEL_BAD:
+    case ID_BAD_TOO:
     case RECORDS_TOO_FEW:
         return below(rng, 2);
     default:
@@ -856,6 +1122,11 @@ static void draft_shape(struct rng *rng, struct draft *draft, uint64_t shape)
     const uint32_t w = draft->task.w;
     if (shape < LENGTH(spoilt))
         spoil(rng, table, place_of(rng, table->n, spoilt[shape].where), spoilt[shape].troubles, w);
+    if (shape == SPOILT_NEXT && table->n > 1) {
+        uint64_t place = below(rng, table->n - 1);
+        spoil(rng, table, place, SPARE, w);
+        spoil(rng, table, place + 1, EMPTY, w);
+    }
     if (shape == SLOTS_TOO_MANY_SPOILT)
         spoil(rng, table, one_in(rng, 2) ? 0 : 1 + below(rng, SLOTS_MAX - 1), EMPTY, w);
     for (uint64_t slots = slots_to_spoil(rng, shape); slots > 0; slots--)
@@ -886,12 +1157,11 @@ static void append_task(struct input *input, const struct task *task)
     input->task_len += TASK_BYTES;
 }
 
-/* Appends a record. Its slots go behind those of the others, with strangers between. */
+/* Appends a record. Its board goes behind those of the others, with strangers between. */
 static void append_draft(struct rng *rng, struct input *input, struct draft *draft, uint64_t damages)
 {
     struct task *task = &draft->task;
     size_t before = below(rng, 3), first = input->slots_len / SLOT_BYTES + before;
-    task->id = (uint32_t)draw(rng);
     task->first = (uint32_t)first;
     task->count = draft->table.n;
     draft->after = 0;
@@ -901,16 +1171,24 @@ static void append_draft(struct rng *rng, struct input *input, struct draft *dra
     append_task(input, task);
     size_t len = (before + draft->table.n + draft->after) * SLOT_BYTES;
     scribble(rng, input->slots + input->slots_len, len);
-    put_table(input->slots + first * SLOT_BYTES, &draft->table);
+    put_board(rng, input->slots + first * SLOT_BYTES, draft, before > 0, draft->after > 0);
     input->slots_len += len;
 }
 
-/* Another task on the slots of an earlier record, or the very same record once more. */
+/* Mostly the owner of some slot of a task's board; where there is none, or now and then, anyone. */
+static uint32_t some_owner(struct rng *rng, const struct input *input, const struct task *task)
+{
+    if (task->count == 0 || task->first + task->count > input->slots_len / SLOT_BYTES || one_in(rng, 6))
+        return some_id(rng);
+    return owner_at(input->slots, task->first + below(rng, task->count));
+}
+
+/* Another task on the board of an earlier record, or the very same record once more. */
 static void append_sharer(struct rng *rng, struct input *input)
 {
     struct task task = task_of_bytes(input->task + below(rng, records_of(input)) * TASK_BYTES);
-    if (!one_in(rng, 3)) {
-        task.id = (uint32_t)draw(rng);
+    if (!one_in(rng, 4)) {
+        task.id = some_owner(rng, input, &task);
         task.e += (uint32_t)below(rng, 2);
         task.k = 1 + (uint32_t)below(rng, 2 * MANY_STRIPS_FROM);
         task.m = (uint32_t)below(rng, task.k + 1);
@@ -930,11 +1208,11 @@ static void draft_record(struct rng *rng, struct draft *draft, uint64_t rare)
 static void append_record(struct rng *rng, struct input *input, bool damaged)
 {
     struct draft draft;
-    if (input->task_len > 0 && one_in(rng, 5)) {
+    if (input->task_len > 0 && one_in(rng, 4)) {
         append_sharer(rng, input);
         return;
     }
-    bool bad_table = damaged && one_in(rng, 3);
+    bool bad_table = damaged && one_in(rng, 2);
     if (bad_table)
         draft_shape(rng, &draft, below(rng, BAD_TABLES));
     else
@@ -947,7 +1225,7 @@ static void spoil_record(struct rng *rng, uint8_t *record)
 {
     struct task task = task_of_bytes(record);
     const uint64_t wheels[] = {0, WHEEL_MAX + 1, UINT32_MAX};
-    switch (below(rng, 8)) {
+    switch (below(rng, 9)) {
     case 0:
         task.first = 65535;
         break;
@@ -968,6 +1246,9 @@ static void spoil_record(struct rng *rng, uint8_t *record)
         break;
     case 6:
         task.k = one_in(rng, 2) ? 0 : STRIPS_MAX + 1;
+        break;
+    case 7:
+        task.id = some_bad_id(rng, task.id, below(rng, 4));
         break;
     default:
         task.m = UINT32_MAX;
@@ -992,11 +1273,26 @@ static size_t some_records(struct rng *rng)
     return one_in(rng, 3) ? pick(rng, edges, LENGTH(edges)) : 1 + below(rng, SITE_RECORDS_MAX);
 }
 
-/* Some sites have only bad records, no slot records, or only good ones; in the others a third is damaged. */
+/* The board that all tasks of a site may share: one with many owners. */
+static void append_board(struct rng *rng, struct input *input)
+{
+    struct draft draft;
+    draft_crowd(rng, &draft, JUDGE);
+    append_draft(rng, input, &draft, 0);
+}
+
+/*
+ * Some sites have only bad records, no slot records, one board for all, or only good ones; in the others a third is
+ * damaged.
+ */
 static void fill_site(struct rng *rng, struct input *input, size_t records)
 {
-    enum { ALL_BAD, BARE, ALL_GOOD, MIXED, MOODS = 8 };
+    enum { ALL_BAD, BARE, ONE_BOARD, ALL_GOOD, MIXED, MOODS = 9 };
     uint64_t mood = below(rng, MOODS);
+    if (mood == ONE_BOARD && records > 0)
+        append_board(rng, input);
+    while (records_of(input) < records && mood == ONE_BOARD)
+        append_sharer(rng, input);
     while (records_of(input) < records)
         append_record(rng, input, mood >= MIXED && one_in(rng, 3));
     if (mood == BARE)
@@ -1067,8 +1363,8 @@ static void make_site_input(struct rng *rng, struct input *input, uint64_t numbe
 /* Good records, among them one whose wheel is at an edge; wheel and use go round as above. */
 static void make_edge_site(struct rng *rng, struct input *input, uint64_t number)
 {
-    static const enum edge_use uses[] = {EDGE_FEW, EDGE_MANY, EDGE_SOME};
-    uint64_t w = wheel_edges[number % WHEEL_EDGES];
+    static const enum edge_use uses[] = {EDGE_FEW, EDGE_MANY, EDGE_SOME, EDGE_MOST_MANY};
+    uint32_t w = wheel_edges[number % WHEEL_EDGES];
     enum edge_use use = uses[number / WHEEL_EDGES % LENGTH(uses)];
     size_t records = 2 + below(rng, 4), place = below(rng, records);
     struct draft draft;
@@ -1085,10 +1381,10 @@ static void make_edge_site(struct rng *rng, struct input *input, uint64_t number
 
 /* ---- which slot ---- */
 
-/* 65 slots or 66, a count whose low byte would do, or the largest that a record can hold. */
+/* One slot or two too many, a count whose low ten bits would do, or the largest that a record can hold. */
 static void count_too_many(struct rng *rng, struct draft *draft)
 {
-    const uint64_t counts[] = {SLOTS_MAX + 1, SLOTS_MAX + 1, SLOTS_MAX + 2, 256 + below(rng, SLOTS_MAX + 1), 65535};
+    const uint64_t counts[] = {SLOTS_MAX + 1, SLOTS_MAX + 1, SLOTS_MAX + 2, 1024 + below(rng, SLOTS_MAX + 1), 65535};
     draft->task.count = (uint32_t)pick(rng, counts, LENGTH(counts));
     draft->after += draft->task.count - draft->table.n;
 }
@@ -1113,28 +1409,30 @@ static void point_beyond(struct rng *rng, struct draft *draft, uint64_t turn)
     }
 }
 
-/* Refusals 3, 4 and 14 of the record, also two of them at once. */
+/* Refusals 3, 19, 4 and 14 of the record, also several of them at once. */
 static void shape_task(struct rng *rng, struct draft *draft, uint64_t shape, uint64_t turn)
 {
     const uint64_t wheels[] = {0, WHEEL_MAX + 1, UINT32_MAX};
-    bool few = shape == RECORDS_TOO_FEW, bad_wheel = shape == WHEEL_BAD;
-    if (shape == SLOTS_TOO_MANY || shape == SLOTS_TOO_MANY_SPOILT || (bad_wheel && one_in(rng, 3)))
+    bool few = shape == RECORDS_TOO_FEW, bad_wheel = shape == WHEEL_BAD, bad_id = shape == ID_BAD_TOO;
+    if (shape == SLOTS_TOO_MANY || shape == SLOTS_TOO_MANY_SPOILT || ((bad_wheel || bad_id) && one_in(rng, 3)))
         count_too_many(rng, draft);
-    if (bad_wheel || (few && one_in(rng, 2)))
+    if (bad_wheel || ((few || bad_id) && one_in(rng, 3)))
         draft->task.w = (uint32_t)wheels[turn % LENGTH(wheels)];
+    if (shape == ID_BAD || bad_id || (few && one_in(rng, 3)))
+        draft->task.id = some_bad_id(rng, draft->task.id, turn);
     if (few)
         point_beyond(rng, draft, turn);
     if (shape == BYTES_DAMAGED)
         damage_draft(rng, draft);
 }
 
-/* The record before the task's first slot, if there is one: it fits the wheel but ends after that slot's start. */
-static void put_clash(struct input *input, const struct draft *draft, size_t first)
+/* The record before the board's first slot, if there is one: it fits the wheel but ends after that slot's start. */
+static void put_clash(struct rng *rng, struct input *input, const struct draft *draft, size_t first)
 {
-    if (first == 0)
-        return;
-    put_number(input->slots + (first - 1) * SLOT_BYTES, 0, 4);
-    put_number(input->slots + (first - 1) * SLOT_BYTES + 4, draft->table.slot[0][0] + 1, 4);
+    const uint32_t owner = one_in(rng, 2) ? draft->task.id : some_other(rng, draft->task.id);
+    const struct slot clash = {0, draft->table.slot[0].start + 1, owner, 0};
+    if (first > 0)
+        put_record(input->slots + (first - 1) * SLOT_BYTES, &clash);
 }
 
 static void shape_bytes(struct rng *rng, struct input *input, uint64_t shape, uint64_t turn)
@@ -1143,7 +1441,7 @@ static void shape_bytes(struct rng *rng, struct input *input, uint64_t shape, ui
     if (shape == TASK_LENGTH)
         input->task_len = task_lengths[turn % LENGTH(task_lengths)];
     if (shape == SLOTS_LENGTH)
-        damage_slots_length(rng, input, below(rng, SLOTS_LENGTHS));
+        damage_slots_length(rng, input, turn % SLOTS_LENGTHS);
     if (shape == BYTES_DAMAGED)
         damage_bytes(rng, input);
 }
@@ -1165,16 +1463,92 @@ static void make_which_input(struct rng *rng, struct input *input, uint64_t numb
     input->task_len = TASK_BYTES;
     lay_slots(rng, input, &draft, first);
     if (shape == STRANGER_BEFORE)
-        put_clash(input, &draft, first);
+        put_clash(rng, input, &draft, first);
     shape_bytes(rng, input, shape, turn);
     if (refusal_of_sizes(input->task_len, input->slots_len) == 0)
         keep_cheap(input, input->task, small_work);
     input->offset = some_offset(rng, task_of_bytes(input->task).w);
 }
 
+/* ---- pairs of boards ---- */
+
+/* A wheel with slots of the task's alone: none, some or as many as a board holds. */
+static void draft_owner(struct rng *rng, struct draft *draft)
+{
+    draft_own(rng, draft, SLOTS_MAX, small_work);
+    const uint64_t way = below(rng, 8);
+    if (way < 2)
+        draft->table.n = 0;
+    if (way == 1) {
+        uint64_t n = some_crowd(rng, draft);
+        strewn(rng, &draft->table, draft->task.w, 1 + below(rng, n));
+    }
+}
+
+/* Strips that suit the task's slots; a third of them is moved to a bound or past it. */
+static void draft_pair_strips(struct rng *rng, struct draft *draft)
+{
+    struct strips *s = &draft->strips;
+    draft_strips(rng, draft, JUDGE, small_work);
+    if (!one_in(rng, 3))
+        return;
+    stretch(rng, s, (enum field)below(rng, FIELDS), UINT32_MAX);
+    if (refusal_of_strips(s) == 0)
+        trim(s, draft->task.w, 1, small_work);
+}
+
+/* The others change places: their owners in the opposite order, on the same slots. */
+static void turn_others(struct table *table, uint32_t id)
+{
+    uint32_t low = 0, high = table->n;
+    while (low < high) {
+        struct slot *one = &table->slot[low], *other = &table->slot[high - 1];
+        const uint32_t owner = one->owner;
+        if (one->owner == id) {
+            low++;
+        } else if (other->owner == id) {
+            high--;
+        } else {
+            one->owner = other->owner;
+            other->owner = owner;
+            low++;
+            high--;
+        }
+    }
+}
+
+bool is_pair(uint64_t number)
+{
+    return number % PAIR_EVERY == PAIR_EVERY / 2 - 1;
+}
+
+void make_pair(struct input *one, struct input *other, struct rng *rng)
+{
+    struct draft draft, twin;
+    draft_owner(rng, &draft);
+    draft_pair_strips(rng, &draft);
+    const uint32_t id = draft.task.id, w = draft.task.w;
+    const uint64_t way = below(rng, 4);
+    twin = draft; /* way 0: no slots but the task's */
+    share(rng, &draft.table, w, id);
+    if (way == 1)
+        twin = draft;
+    if (way > 1)
+        share(rng, &twin.table, w, id);
+    turn_others(&twin.table, id);
+    lay_draft(rng, one, &draft);
+    lay_draft(rng, other, &twin);
+    one->null_when_empty = one_in(rng, 2);
+    other->null_when_empty = one_in(rng, 2);
+    one->offset = other->offset = some_offset(rng, w);
+    one->reply_len = other->reply_len = ANSWER_BYTES + below(rng, 2);
+    scribble(rng, one->reply, REPLY_ROOM);
+    memcpy(other->reply, one->reply, REPLY_ROOM);
+}
+
 /* ---- all ---- */
 
-/* Sites, edges and which slot stand at numbers of their own, which no larger work has either. */
+/* Sites, edges, which slot and pairs stand at numbers of their own, which no larger work has either. */
 void make_input(struct input *input, struct rng *rng, uint64_t number)
 {
     uint64_t work = work_for(number), kind = below(rng, 10);

@@ -1,4 +1,4 @@
-/* Seeded inputs for the second program: one call each, good, at a bound or damaged. */
+/* Seeded inputs for the second program: one call each, good, at a bound or damaged; and pairs of boards. */
 #ifndef INPUTS_H
 #define INPUTS_H
 
@@ -35,12 +35,29 @@ enum { WHEEL_EDGES = 14 };
 extern const uint32_t wheel_edges[WHEEL_EDGES];
 
 /* What must be asked of each of them, and met with drops or granted slots; the last two among a site's records. */
-enum edge_use { EDGE_FEW, EDGE_SOME, EDGE_MANY, EDGE_COUNT, EDGE_GRANT, EDGE_SITE, EDGE_SITE_MANY, EDGE_USES };
+enum edge_use {
+    EDGE_FEW,
+    EDGE_SOME,
+    EDGE_MANY,
+    EDGE_MOST_SOME,
+    EDGE_MOST_MANY,
+    EDGE_COUNT,
+    EDGE_GRANT,
+    EDGE_SITE,
+    EDGE_SITE_MANY,
+    EDGE_USES
+};
 
-/* The use of a judged task, by its strips and slots; EDGE_USES for none. */
-enum edge_use edge_use_of(const struct task *task);
+/* The use of a judged task, by its strips and how many slots it owns; EDGE_USES for none. */
+enum edge_use edge_use_of(const struct task *task, uint32_t owned);
 /* The same of one that is judged in a site. */
 enum edge_use site_edge_use_of(const struct task *task);
+
+/* The owner of a slot record, and how many slots of a board are its task's. */
+uint32_t owner_at(const uint8_t *slots, size_t record);
+uint32_t owned_slots(const struct task *task, const uint8_t *slots);
+/* The wheel as it would be if every slot of a good board were its task's: where that tells, the owners do. */
+void wheel_of_board(struct wheel *wheel, const struct task *task, const uint8_t *slots);
 
 struct rng {
     uint64_t state;
@@ -55,5 +72,14 @@ uint64_t below(struct rng *rng, uint64_t n);
 
 /* Makes input `number` of `seed`; input->slots must point at SLOTS_ROOM bytes. */
 void make_input(struct input *input, struct rng *rng, uint64_t number);
+
+/* Whether a pair stands at that number. */
+bool is_pair(uint64_t number);
+/*
+ * Makes two task records that differ in first and count alone, on two slot buffers. Both boards are good and have the
+ * same slots for the task's id; the others' slots are as they come. Offset and reply are the same. Both inputs' slots
+ * must point at SLOTS_ROOM bytes each; `kind` is left to the caller.
+ */
+void make_pair(struct input *one, struct input *other, struct rng *rng);
 
 #endif

@@ -42,7 +42,7 @@ struct question make_question(struct input *input, uint64_t seed, uint64_t i)
     make_input(input, &rng, i);
     if (input->kind == GRANT || input->kind == SITE)
         return make_lookup(input, &rng);
-    size_t slots_len = input->slots_len < PART_MAX ? input->slots_len : PART_MAX;
+    size_t slots_len = input->slots_len < PART_MAX ? input->slots_len : PART_SLOTS_MAX * SLOT_BYTES;
     return (struct question){input->task, input->slots, input->task_len, slots_len, input->offset};
 }
 
@@ -61,6 +61,32 @@ struct answers answers_of(const struct question *q)
 static void note(struct question_tally *tally, enum question_class which, bool met)
 {
     tally->met[which] += met;
+}
+
+/* Whether a slot of the board has another owner that differs from the id within the mask alone. */
+static bool has_other(const struct task *task, const uint8_t *slots, uint32_t mask)
+{
+    for (uint32_t i = 0; i < task->count; i++) {
+        uint32_t difference = owner_at(slots, task->first + i) ^ task->id;
+        if (difference != 0 && (difference & ~mask) == 0)
+            return true;
+    }
+    return false;
+}
+
+static void add_owners(struct question_tally *tally, const struct question *q, const struct answers *answers)
+{
+    struct task task = task_of_bytes(q->a);
+    const uint32_t owned = owned_slots(&task, q->b);
+    const bool some = answers->count > 0 && answers->count < task.k;
+    struct wheel wheel;
+    wheel_of_board(&wheel, &task, q->b);
+    note(tally, SHARED_SUPPLY, supply_at(&wheel, task.D, 2, q->number) > answers->supply);
+    note(tally, SHARED_COUNT, some && owned > 0 && owned < task.count);
+    note(tally, OWNED_NONE, owned == 0 && task.count > 0);
+    note(tally, OWNED_MANY, owned > GRANT_SLOTS_MAX);
+    note(tally, OTHER_HIGH, has_other(&task, q->b, 0xff00));
+    note(tally, OTHER_LOW, has_other(&task, q->b, 0x00ff));
 }
 
 static void add_point(struct question_tally *tally, const struct question *q, const struct answers *answers)
@@ -121,8 +147,10 @@ void question_tally_add(struct question_tally *tally, const struct question *q, 
 {
     uint64_t number = answers->supply >> 32;
     tally->numbers[number]++;
-    if (number == 0)
+    if (number == 0) {
         add_point(tally, q, answers);
+        add_owners(tally, q, answers);
+    }
     add_lookup(tally, q, answers);
 }
 

@@ -9,7 +9,8 @@
 
 #include "inputs.h"
 
-enum { PART_MAX = 65536 }; /* the longest byte string that the program reads */
+/* The longest byte string that the program reads, and how many slot records it has room for. */
+enum { PART_MAX = 65536, PART_SLOTS_MAX = PART_MAX / SLOT_BYTES };
 
 struct question {
     const uint8_t *a, *b;
@@ -42,6 +43,12 @@ struct answers answers_of(const struct question *question);
     X(MARGIN_OVER_D, "margin: e above D by two ticks or more")                                                         \
     X(MARGIN_MOST_NEED, "margin: e 1,000,000")                                                                         \
     X(COUNT_SOME, "count: some strips drop, not all")                                                                  \
+    X(SHARED_SUPPLY, "supply: it would be more if every slot were the task's")                                         \
+    X(SHARED_COUNT, "count: some strips drop, not all, on a board with others' slots beside the task's")               \
+    X(OWNED_NONE, "supply: slots on the board, none of them the task's")                                               \
+    X(OWNED_MANY, "supply: more than 64 slots of the task's")                                                          \
+    X(OTHER_HIGH, "supply: another owner that differs from the id in its upper byte alone")                            \
+    X(OTHER_LOW, "supply: another owner that differs from the id in its lower byte alone")                             \
     X(FOUND_SITE, "lookup: in the site file alone")                                                                    \
     X(FOUND_BOTH, "lookup: in both files")                                                                             \
     X(FOUND_FACTORY, "lookup: in the factory file alone")                                                              \
@@ -57,7 +64,7 @@ enum question_class { QUESTION_CLASSES(QUESTION_ID) QUESTION_CLASS_COUNT };
 #undef QUESTION_ID
 
 struct question_tally {
-    uint64_t numbers[18]; /* refusals of the questions at a half tick */
+    uint64_t numbers[20]; /* refusals of the questions at a half tick */
     uint64_t met[QUESTION_CLASS_COUNT];
 };
 

@@ -1,5 +1,6 @@
 #!/bin/sh
-# Tries `records`: round trip, each kind of complaint, and what it says of slots that are wrong. Usage: records-test.sh RECORDS
+# Tries `records`: round trip, each kind of complaint, and what it says of boards that are wrong.
+# Usage: records-test.sh RECORDS
 set -u
 records=$1
 folder=$(mktemp -d) || exit 1
@@ -7,7 +8,7 @@ trap 'rm -rf "$folder"' EXIT
 tried=0 failed=0
 
 tasks_header='id,w,e,D,h,m,k,first,count'
-slots_header='start,end'
+slots_header='start,end,owner'
 
 fail() {
     failed=$((failed + 1))
@@ -18,7 +19,7 @@ fail() {
 fresh() {
     rm -rf "$folder"/*
     printf '%s\n1,55,27,70,70,3,10,0,2\n' "$tasks_header" >"$folder/tasks.csv"
-    printf '%s\n11,21\n33,43\n' "$slots_header" >"$folder/slots.csv"
+    printf '%s\n11,21,1\n33,43,1\n' "$slots_header" >"$folder/slots.csv"
 }
 
 # complains NAME TEXT [LEFT]: `make` must fail, say TEXT, and leave only the tables and LEFT.
@@ -55,8 +56,8 @@ tables() {
     printf "$slots_header\n%b\n" "$2" >"$folder/slots.csv"
 }
 
-# slots N: N slots of a tick each, as lines of a table.
-slots() { awk -v n="$1" 'BEGIN { for (i = 0; i < n; i++) printf "%d,%d\n", 2 * i, 2 * i + 1 }'; }
+# slots N: N slots of a tick each, as lines of a table; every second one is task 7's.
+slots() { awk -v n="$1" 'BEGIN { for (i = 0; i < n; i++) printf "%d,%d,%d\n", 2 * i, 2 * i + 1, 7 + i % 2 }'; }
 
 # bad_task NAME LINE TEXT, bad_slot NAME LINE TEXT: a second line that can't be read.
 bad_task() { fresh; printf '%s\n' "$2" >>"$folder/tasks.csv"; complains "$1" "tasks.csv:3: $3"; }
@@ -70,6 +71,7 @@ fresh
     printf ' 1, 55,27,70,70,3,10,0,2 \n   \n#x\n'
     printf '4294967295,4294967295,0,4294967295,4294967295,1,2,65535,65535'
 } >"$folder/tasks.csv"
+printf ' 4294967295 ,4294967295,65535\n0,0,0\n' >>"$folder/slots.csv"
 "$records" make "$folder" 2>/dev/null || fail 'round trip: make'
 "$records" show "$folder" >"$folder/shown" || fail 'round trip: show'
 cat >"$folder/expected" <<END
@@ -79,8 +81,10 @@ $tasks_header
 4294967295,4294967295,0,4294967295,4294967295,1,2,65535,65535
 # slots.csv
 $slots_header
-11,21
-33,43
+11,21,1
+33,43,1
+4294967295,4294967295,65535
+0,0,0
 END
 cmp -s "$folder/shown" "$folder/expected" || fail 'round trip: shown differently'
 
@@ -94,13 +98,20 @@ sed '1,/^# slots.csv/d' "$folder/shown" >"$folder/slots.csv"
 cmp -s "$folder/tasks.bin" "$folder/tasks.first" || fail 'second round: tasks.bin'
 cmp -s "$folder/slots.bin" "$folder/slots.first" || fail 'second round: slots.bin'
 
-# The bytes themselves, once.
+# bytes TABLE HEX: the bytes of its records.
+bytes() {
+    found=$(od -An -v -tx1 "$folder/$1.bin" | tr -d ' \n')
+    [ "$found" = "$2" ] || fail "bytes of $1.bin: $found"
+}
+
+# The bytes themselves, once; the spare ones are zero.
 tried=$((tried + 1))
 fresh
 printf '%s\n67305985,2,3,4,5,6,7,258,9\n' "$tasks_header" >"$folder/tasks.csv"
+printf '%s\n67305985,134678021,2569\n4294967295,4294967295,65535\n' "$slots_header" >"$folder/slots.csv"
 "$records" make "$folder" 2>/dev/null || fail 'bytes: make'
-bytes=$(od -An -v -tx1 "$folder/tasks.bin" | tr -d ' \n')
-[ "$bytes" = 0102030402000000030000000400000005000000060000000700000002010900 ] || fail "bytes: $bytes"
+bytes tasks 0102030402000000030000000400000005000000060000000700000002010900
+bytes slots 0102030405060708090a0000ffffffffffffffffffff0000
 
 # A byte-order mark before the first line, as spreadsheets write it, changes no byte of the records.
 tried=$((tried + 1))
@@ -132,8 +143,14 @@ bad_task 'over 16 bits' '1,55,27,70,70,3,10,65536,2' 'field first: above 65535: 
 bad_task 'a missing field' '1,55,27,70,70,3,10,0' 'field count: missing'
 bad_task 'an extra field' '1,55,27,70,70,3,10,0,2,8' 'field count: an extra field after it: "8"'
 bad_slot 'a slot with one number' '50' 'field end: missing'
-bad_slot 'a slot with three' '50,51,52' 'field end: an extra field after it: "52"'
-bad_slot 'a slot word' 'a,51' 'field start: not a number: "a"'
+bad_slot 'a slot without owner' '50,51' 'field owner: missing'
+bad_slot 'a slot with four numbers' '50,51,1,0' 'field owner: an extra field after it: "0"'
+bad_slot 'a slot word' 'a,51,1' 'field start: not a number: "a"'
+bad_slot 'an end over 32 bits' '50,4294967296,1' 'field end: above 4294967295: "4294967296"'
+bad_slot 'an owner over 16 bits' '50,51,65536' 'field owner: above 65535: "65536"'
+bad_slot 'an owner far over 64 bits' '50,51,99999999999999999999999' 'field owner: above 65535'
+bad_slot "an owner's name" '50,51,chime' 'field owner: not a number: "chime"'
+bad_slot 'an empty owner' '50,51,' 'field owner: not a number: ""'
 
 fresh; echo '1,55,27,70,70,3,10,0,2' >"$folder/tasks.csv"
 complains 'no header' 'tasks.csv:1: field id: the header has another name here: "1"'
@@ -143,10 +160,18 @@ fresh; printf '\357\273\277' >"$folder/tasks.csv"
 complains 'a byte-order mark alone' 'tasks.csv:1: field id: no header line'
 fresh; printf '\357\273%s\n' "$tasks_header" >"$folder/tasks.csv"
 complains 'part of a byte-order mark' 'tasks.csv:1: field id: the header has another name here'
-fresh; printf '%s\n\357\273\2771,2\n' "$slots_header" >"$folder/slots.csv"
+fresh; printf '%s\n\357\273\2771,2,3\n' "$slots_header" >"$folder/slots.csv"
 complains 'a byte-order mark on a later line' 'slots.csv:2: field start: not a number'
-fresh; echo 'begin,end' >"$folder/slots.csv"
+fresh; echo 'begin,end,owner' >"$folder/slots.csv"
 complains 'another header' 'slots.csv:1: field start: the header has another name here: "begin"'
+fresh; printf '# for the painter alone\nstart,end\n11,21\n' >"$folder/slots.csv"
+complains 'a header without owner' 'slots.csv:2: field owner: missing'
+fresh; printf 'start,end\n11,21,1\n' >"$folder/slots.csv"
+complains 'owners below a header without them' 'slots.csv:1: field owner: missing'
+fresh; echo 'start,end,task' >"$folder/slots.csv"
+complains 'another name for the owner' 'slots.csv:1: field owner: the header has another name here: "task"'
+fresh; echo "$slots_header,spare" >"$folder/slots.csv"
+complains 'a header with one column more' 'slots.csv:1: field owner: an extra field after it: "spare"'
 fresh; rm "$folder/slots.csv"
 complains 'a missing table' 'slots.csv: No such file'
 fresh; mkdir "$folder/slots.bin.part"
@@ -180,65 +205,128 @@ printf 'x' >>"$folder/tasks.bin"
 "$records" show "$folder" >"$folder/shown" 2>"$folder/said" && fail 'part record: taken'
 grep -qF "tasks.bin: 33 bytes, the last record isn't whole" "$folder/said" || fail 'part record: said something else'
 
-# Tables that would be refused: the line is named, and the records are written all the same.
+# spare RECORD PLACE BYTE: the spare byte at PLACE, 0 or 1, of a record of slots.bin becomes BYTE, in octal.
+spare() { printf "\\$3" | dd of="$folder/slots.bin" bs=1 seek=$((12 * $1 + 10 + $2)) conv=notrunc 2>/dev/null; }
+
+# lost NAME RECORDS [MORE]: `show` must print the whole table, say that it leaves out the spare bytes of these records,
+# then MORE, and fail.
+lost() {
+    tried=$((tried + 1))
+    "$records" show "$folder" >"$folder/shown" 2>"$folder/said" && fail "$1: taken"
+    for record in $2; do
+        echo "slots.bin: record $record: its spare bytes aren't zero, and the table leaves them out"
+    done >"$folder/expected"
+    [ -z "${3:-}" ] || echo "$3" >>"$folder/expected"
+    sed "s|$folder/||g" "$folder/said" | cmp -s - "$folder/expected" || fail "$1: said \"$(cat "$folder/said")\""
+    sed '1,/^# slots.csv/d' "$folder/shown" | cmp -s - "$folder/slots.csv" || fail "$1: shown differently"
+}
+
+# Spare bytes have no column, so a table can't give them back; made again from the table they are zero.
+fresh
+"$records" make "$folder" || fail 'spare bytes: make'
+cp "$folder/slots.bin" "$folder/slots.first"
+spare 0 0 001; lost 'the first spare byte of the first slot' 0
+spare 0 0 000; spare 1 1 200; lost 'the second spare byte of the last slot' 1
+spare 0 1 377; lost 'spare bytes of two slots' '0 1'
+printf 'x' >>"$folder/slots.bin"
+lost 'spare bytes and a part record' '0 1' "slots.bin: 25 bytes, the last record isn't whole (12 bytes each)"
+tried=$((tried + 1))
+"$records" make "$folder" || fail 'spare bytes: make again'
+cmp -s "$folder/slots.bin" "$folder/slots.first" || fail 'spare bytes: not zero again'
+
+# Boards that would be refused: the line is named, and whose slot it is, and the records are written all the same.
 beyond='first + count goes beyond the last slot record'
 wheel="the wheel w isn't from 1 to 16,384 ticks"
-many='the task has more than 64 slots'
+many='the board has more than 512 slot records'
 empty="a slot whose start isn't below its end"
 past='a slot whose end is above the wheel w'
 early='a slot whose start is below the end of the slot before it'
+id="the id isn't from 0 to 65,535"
 task='7,55,27,70,70,3,10,0,3'
+board='of the board of task 7 (tasks.csv:2)'
 
-tables "$task" '0,10\n10,20\n50,55'; tells 'slots that touch and end with the wheel' ''
+tables "$task" '0,10,7\n10,20,7\n50,55,7'; tells 'slots that touch and end with the wheel' ''
+tables "$task" '0,10,5\n10,20,7\n20,30,6'; tells "others' slots that touch the task's" ''
+tables "$task" '0,10,5\n10,20,6\n20,30,5'; tells 'a task without a slot of its own' ''
 tables '7,55,27,70,70,3,10,0,0\n8,0,0,0,0,0,0,0,0' ''; tells 'no slots' "tasks.csv:3: task 8: $wheel"
-tables '7,55,0,0,0,9,0,0,3' '0,10\n10,20\n50,55'; tells 'other numbers' ''
+tables '7,55,0,0,0,9,0,0,3' '0,10,7\n10,20,7\n50,55,7'; tells 'other numbers' ''
 
-tables "$task" '10,10\n20,30\n40,50'; tells '15 in the first slot' "slots.csv:2: slot 0 of task 7 (tasks.csv:2): $empty"
-tables "$task" '0,10\n30,20\n40,50'; tells '15 in a middle slot' "slots.csv:3: slot 1 of task 7 (tasks.csv:2): $empty"
-tables "$task" '0,10\n20,30\n50,40'; tells '15 in the last slot' "slots.csv:4: slot 2 of task 7 (tasks.csv:2): $empty"
-tables "$task" '0,56\n20,30\n40,50'; tells '16 in the first slot' "slots.csv:2: slot 0 of task 7 (tasks.csv:2): $past"
-tables "$task" '0,10\n20,56\n40,50'; tells '16 in a middle slot' "slots.csv:3: slot 1 of task 7 (tasks.csv:2): $past"
-tables "$task" '0,10\n20,30\n40,56'; tells '16 in the last slot' "slots.csv:4: slot 2 of task 7 (tasks.csv:2): $past"
-tables "$task" '0,10\n9,30\n40,50'; tells '17 in a middle slot' "slots.csv:3: slot 1 of task 7 (tasks.csv:2): $early"
-tables "$task" '0,10\n20,30\n29,50'; tells '17 in the last slot' "slots.csv:4: slot 2 of task 7 (tasks.csv:2): $early"
-tables '7,55,27,70,70,3,10,1,2' '0,30\n20,30\n40,50'; tells "another task's slot before the first" ''
+tables "$task" '10,10,7\n20,30,7\n40,50,7'; tells '15 in the first slot' "slots.csv:2: slot 0 (owner 7) $board: $empty"
+tables "$task" '0,10,7\n30,20,7\n40,50,7'; tells '15 in a middle slot' "slots.csv:3: slot 1 (owner 7) $board: $empty"
+tables "$task" '0,10,7\n20,30,7\n50,40,7'; tells '15 in the last slot' "slots.csv:4: slot 2 (owner 7) $board: $empty"
+tables "$task" '0,56,7\n20,30,7\n40,50,7'; tells '16 in the first slot' "slots.csv:2: slot 0 (owner 7) $board: $past"
+tables "$task" '0,10,7\n20,56,7\n40,50,7'; tells '16 in a middle slot' "slots.csv:3: slot 1 (owner 7) $board: $past"
+tables "$task" '0,10,7\n20,30,7\n40,56,7'; tells '16 in the last slot' "slots.csv:4: slot 2 (owner 7) $board: $past"
+tables "$task" '0,10,7\n9,30,7\n40,50,7'
+tells '17 in a middle slot' "slots.csv:3: slot 1 (owner 7) $board: $early (slots.csv:2, owner 7)"
+tables "$task" '0,10,7\n20,30,7\n29,50,7'
+tells '17 in the last slot' "slots.csv:4: slot 2 (owner 7) $board: $early (slots.csv:3, owner 7)"
+tables '7,55,27,70,70,3,10,1,2' '0,30,7\n20,30,7\n40,50,7'; tells "a slot before the board's first" ''
 
-tables "$task" '0,30\n80,70\n40,50'; tells '15 and 16 in one slot' "slots.csv:3: slot 1 of task 7 (tasks.csv:2): $empty"
-tables "$task" '0,30\n20,70\n40,50'; tells '16 and 17 in one slot' "slots.csv:3: slot 1 of task 7 (tasks.csv:2): $past"
-tables "$task" '0,30\n20,40\n50,50'; tells 'two bad slots' "slots.csv:3: slot 1 of task 7 (tasks.csv:2): $early"
+tables "$task" '9,9,5\n20,30,7\n40,50,7'
+tells "15 in another owner's slot" "slots.csv:2: slot 0 (owner 5) $board: $empty"
+tables "$task" '0,10,7\n20,30,7\n40,56,65535'
+tells "16 in another owner's slot" "slots.csv:4: slot 2 (owner 65535) $board: $past"
+tables "$task" '0,10,7\n9,30,5\n40,50,7'
+tells "17 in another owner's slot" "slots.csv:3: slot 1 (owner 5) $board: $early (slots.csv:2, owner 7)"
+tables "$task" '0,10,5\n\n# the painter\n9,30,7\n40,50,7'
+tells "17 against another owner's slot" "slots.csv:5: slot 1 (owner 7) $board: $early (slots.csv:2, owner 5)"
+tables "$task" '0,10,5\n9,30,6\n40,50,7'
+tells '17 between two others' "slots.csv:3: slot 1 (owner 6) $board: $early (slots.csv:2, owner 5)"
+tables "$task" '0,10,7\n20,30,5\n15,40,7'
+tells "17 behind the task's own slot" "slots.csv:4: slot 2 (owner 7) $board: $early (slots.csv:3, owner 5)"
+tables '7,55,27,70,70,3,10,1,2' '0,30,5\n20,30,7\n40,50,7'; tells "another owner's slot before the board's first" ''
 
-tables "$task" '0,10\n20,30'; tells '3 by one' "tasks.csv:2: task 7: $beyond"
-tables '7,55,27,70,70,3,10,65535,65535' '0,10'; tells '3 by far' "tasks.csv:2: task 7: $beyond"
-tables '7,0,27,70,70,3,10,0,3' '0,10\n20,30'; tells '3 before 4' "tasks.csv:2: task 7: $beyond"
-tables '7,0,27,70,70,3,10,0,1' '5,5'; tells '4 for no wheel' "tasks.csv:2: task 7: $wheel"
-tables '7,16384,27,70,70,3,10,0,1\n8,16385,27,70,70,3,10,0,1' '0,10'; tells '4 for a large one' "tasks.csv:3: task 8: $wheel"
-tables '7,200,27,70,70,3,10,0,65\n8,200,27,70,70,3,10,1,64' "$(slots 65)"; tells '14' "tasks.csv:2: task 7: $many"
-tables '7,100,27,70,70,3,10,0,65' "$(slots 65)"; tells '14 before 16' "tasks.csv:2: task 7: $many"
-tables '7,0,27,70,70,3,10,0,65' "$(slots 65)"; tells '4 before 14' "tasks.csv:2: task 7: $wheel"
+tables "$task" '0,30,7\n80,70,7\n40,50,7'; tells '15 and 16 in one slot' "slots.csv:3: slot 1 (owner 7) $board: $empty"
+tables "$task" '0,30,7\n20,70,7\n40,50,7'; tells '16 and 17 in one slot' "slots.csv:3: slot 1 (owner 7) $board: $past"
+tables "$task" '0,30,7\n20,40,5\n50,50,7'
+tells 'two bad slots' "slots.csv:3: slot 1 (owner 5) $board: $early (slots.csv:2, owner 7)"
+
+tables "$task" '0,10,7\n20,30,7'; tells '3 by one' "tasks.csv:2: task 7: $beyond"
+tables '7,55,27,70,70,3,10,65535,65535' '0,10,7'; tells '3 by far' "tasks.csv:2: task 7: $beyond"
+tables '7,0,27,70,70,3,10,0,3' '0,10,7\n20,30,7'; tells '3 before 4' "tasks.csv:2: task 7: $beyond"
+tables '7,0,27,70,70,3,10,0,1' '5,5,7'; tells '4 for no wheel' "tasks.csv:2: task 7: $wheel"
+tables '7,16384,27,70,70,3,10,0,1\n8,16385,27,70,70,3,10,0,1' '0,10,7'
+tells '4 for a large one' "tasks.csv:3: task 8: $wheel"
+tables '7,2000,27,70,70,3,10,0,513\n8,2000,27,70,70,3,10,1,512\n9,2000,27,70,70,3,10,0,512' "$(slots 513)"
+tells '512 records on a board, and 14 for 513' "tasks.csv:2: task 7: $many"
+tables '7,1024,27,70,70,3,10,1,512' "$(slots 513)"
+tells 'the last of 512 records' "slots.csv:514: slot 511 (owner 7) $board: $past"
+tables '7,100,27,70,70,3,10,0,513' "$(slots 513)"; tells '14 before 16' "tasks.csv:2: task 7: $many"
+tables '7,0,27,70,70,3,10,0,513' "$(slots 513)"; tells '4 before 14' "tasks.csv:2: task 7: $wheel"
+
+tables '65535,55,27,70,70,3,10,0,1\n65536,55,27,70,70,3,10,0,1' '0,10,65535'
+tells '19 by one' "tasks.csv:3: task 65536: $id"
+tables '4294967295,55,27,70,70,3,10,0,1' '0,10,65535'; tells '19 by far' "tasks.csv:2: task 4294967295: $id"
+tables '65543,55,27,70,70,3,10,0,2' '0,10,7'; tells '3 before 19' "tasks.csv:2: task 65543: $beyond"
+tables '65543,0,27,70,70,3,10,0,1' '5,5,7'; tells '19 before 4' "tasks.csv:2: task 65543: $id"
 
 # Lines that hold no record are counted, and a byte-order mark isn't one.
-tables '\n# a sign\n7,55,27,70,70,3,10,0,3\n\n8,0,27,70,70,3,10,0,3' '\n0,10\n# one too long\n\n20,56\n40,50'
-tells 'blank lines and comments' "slots.csv:6: slot 1 of task 7 (tasks.csv:4): $past
+tables '\n# a sign\n7,55,27,70,70,3,10,0,3\n\n8,0,27,70,70,3,10,0,3' '\n0,10,7\n# one too long\n\n20,56,7\n40,50,7'
+tells 'blank lines and comments' "slots.csv:6: slot 1 (owner 7) of the board of task 7 (tasks.csv:4): $past
 tasks.csv:6: task 8: $wheel"
 fresh
 printf '\357\273\277# signs\n\n%s\n1,55,27,70,70,3,10,0,2' "$tasks_header" >"$folder/tasks.csv"
-printf '\357\273\277%s\n11,21\n#\n33,56' "$slots_header" >"$folder/slots.csv"
+printf '\357\273\277%s\n11,21,1\n#\n33,56,1' "$slots_header" >"$folder/slots.csv"
 tried=$((tried + 1))
 "$records" make "$folder" 2>"$folder/said" || fail 'lines behind a mark: make'
-[ "$(cat "$folder/said")" = "$folder/slots.csv:4: slot 1 of task 1 ($folder/tasks.csv:4): $past" ] ||
-    fail "lines behind a mark: said \"$(cat "$folder/said")\""
+said=$(sed "s|$folder/||g" "$folder/said")
+[ "$said" = "slots.csv:4: slot 1 (owner 1) of the board of task 1 (tasks.csv:4): $past" ] ||
+    fail "lines behind a mark: said \"$said\""
 
-tables '7,55,27,70,70,3,10,0,3\n8,55,27,70,70,3,10,1,1\n9,60,27,70,70,3,10,0,2\n10,55,27,70,70,3,10,2,1' '0,10\n20,56\n40,50'
-tells 'a slot of three tasks, bad for two' "slots.csv:3: slot 1 of task 7 (tasks.csv:2): $past
-slots.csv:3: slot 0 of task 8 (tasks.csv:3): $past"
+tables '7,55,27,70,70,3,10,0,3\n8,55,27,70,70,3,10,1,1\n9,60,27,70,70,3,10,0,2\n10,55,27,70,70,3,10,2,1' \
+    '0,10,7\n20,56,8\n40,50,10'
+tells 'a slot on three boards, bad on two' "slots.csv:3: slot 1 (owner 8) of the board of task 7 (tasks.csv:2): $past
+slots.csv:3: slot 0 (owner 8) of the board of task 8 (tasks.csv:3): $past"
 
 # More records than the first memory has room for.
-tables "$(awk 'BEGIN { for (i = 0; i < 700; i++) printf "%d,2000,1,1,1,1,1,%d,1\n", i, i }')" "$(slots 650)\n1300,1300\n$(slots 49)"
-tells 'hundreds of records' "slots.csv:652: slot 0 of task 650 (tasks.csv:652): $empty"
+tables "$(awk 'BEGIN { for (i = 0; i < 700; i++) printf "%d,2000,1,1,1,1,1,%d,1\n", i, i }')" \
+    "$(slots 650)\n1300,1300,9\n$(slots 49)"
+tells 'hundreds of records' "slots.csv:652: slot 0 (owner 9) of the board of task 650 (tasks.csv:652): $empty"
 
 # A table that can't be read is complained of alone.
 tried=$((tried + 1))
-tables "$task" '0,10\n20,56\n40'
+tables "$task" '0,10,7\n20,56,7\n40'
 "$records" make "$folder" 2>"$folder/said" && fail 'a bad slot and a missing field: taken'
 [ "$(cat "$folder/said")" = "$folder/slots.csv:4: field end: missing" ] || fail "a missing field: said \"$(cat "$folder/said")\""
 

@@ -9,9 +9,13 @@
  * put before the first line.
  *
  * `make` takes any number that fits its field, so that refusals can be tried
- * too. Where a task's table would be refused it says on standard error which
- * line is wrong and why, but the records are written all the same and the exit
- * status stays 0. A task's other numbers aren't looked at.
+ * too. Where a task's board would be refused it says on standard error which
+ * line is wrong, whose slot that is and why, but the records are written all the
+ * same and the exit status stays 0. A task's other numbers aren't looked at.
+ *
+ * A slot's spare bytes have no column: `make` writes zeros. `show` says on
+ * standard error which records, counted from 0, have others, since the printed
+ * table doesn't give them back, and the exit status is then 1.
  */
 #include "bytes.h"
 #include "files.h"
@@ -33,16 +37,17 @@ enum { COLUMNS_MAX = 9 };
 
 struct table {
     const char *csv, *bin, *part; /* part: what is written before the rename */
-    size_t columns, record_bytes;
+    size_t columns, spare, record_bytes; /* spare: bytes behind the columns, all zero */
     struct column column[COLUMNS_MAX];
 };
 
 enum { TASKS, SLOTS, TABLES };
 
 static const struct table tables[TABLES] = {
-    [TASKS] = {"tasks.csv", "tasks.bin", "tasks.bin.part", 9, FIDDLEQUILL_TASK_BYTES,
+    [TASKS] = {"tasks.csv", "tasks.bin", "tasks.bin.part", 9, 0, FIDDLEQUILL_TASK_BYTES,
                {{"id", 4}, {"w", 4}, {"e", 4}, {"D", 4}, {"h", 4}, {"m", 4}, {"k", 4}, {"first", 2}, {"count", 2}}},
-    [SLOTS] = {"slots.csv", "slots.bin", "slots.bin.part", 2, FIDDLEQUILL_SLOT_BYTES, {{"start", 4}, {"end", 4}}},
+    [SLOTS] = {"slots.csv", "slots.bin", "slots.bin.part", 3, 2, FIDDLEQUILL_SLOT_BYTES,
+               {{"start", 4}, {"end", 4}, {"owner", 2}}},
 };
 
 /* ---- reading a table ---- */
@@ -190,6 +195,7 @@ static int read_record(const struct table *table, const struct place *place, con
         put_number(at, number, table->column[i].width);
         at += table->column[i].width;
     }
+    put_number(at, 0, table->spare);
     return 0;
 }
 
@@ -288,17 +294,33 @@ static int write_all(const char *folder, const struct records *records)
     return renamed == TABLES ? 0 : -1;
 }
 
-/* Says which line is wrong, and why, where the table of task i would be refused. */
+static uint32_t owner_of(const struct records *slots, size_t i)
+{
+    return get_number(slots->bytes + i * FIDDLEQUILL_SLOT_BYTES + 8, 2);
+}
+
+/* A slot that starts too early clashes with the record before it, and either of them may be the wrong one. */
+static void tell_slot(const struct records *slots, size_t i, uint32_t number)
+{
+    fprintf(stderr, "%s", fiddlequill_meaning(number));
+    if (number == FIDDLEQUILL_EARLY_SLOT) /* so it isn't the board's first */
+        fprintf(stderr, " (%s:%zu, owner %" PRIu32 ")", slots->path, slots->lines[i - 1], owner_of(slots, i - 1));
+    fprintf(stderr, "\n");
+}
+
+/* Says which line is wrong, and why, where the board of task i would be refused. */
 static void tell_trouble(const struct records *tasks, const struct records *slots, size_t i)
 {
     const uint8_t *task = tasks->bytes + i * FIDDLEQUILL_TASK_BYTES;
     uint64_t packed = fiddlequill_which_slot(task, FIDDLEQUILL_TASK_BYTES, slots->bytes,
                                              slots->count * FIDDLEQUILL_SLOT_BYTES);
-    uint32_t number = fiddlequill_number(packed), slot = fiddlequill_value(packed);
+    uint32_t number = fiddlequill_number(packed), place = fiddlequill_value(packed);
     uint32_t id = get_number(task, 4), first = get_number(task + 28, 2);
+    size_t bad = (size_t)first + place;
     if (fiddlequill_about_slot(number)) {
-        fprintf(stderr, "%s:%zu: slot %" PRIu32 " of task %" PRIu32, slots->path, slots->lines[first + slot], slot, id);
-        fprintf(stderr, " (%s:%zu): %s\n", tasks->path, tasks->lines[i], fiddlequill_meaning(number));
+        fprintf(stderr, "%s:%zu: slot %" PRIu32 " (owner %" PRIu32 ") of the board of task %" PRIu32 " (%s:%zu): ",
+                slots->path, slots->lines[bad], place, owner_of(slots, bad), id, tasks->path, tasks->lines[i]);
+        tell_slot(slots, bad, number);
     } else if (number != FIDDLEQUILL_OK) {
         fprintf(stderr, "%s:%zu: task %" PRIu32 ": %s\n", tasks->path, tasks->lines[i], id,
                 fiddlequill_meaning(number));
@@ -336,8 +358,33 @@ static void print_table(const struct table *table, const struct file *file)
             printf("%s%" PRIu32, i == 0 ? "" : ",", get_number(at, table->column[i].width));
             at += table->column[i].width;
         }
+        at += table->spare;
         printf("\n");
     }
+}
+
+/* Says which records have spare bytes that the printed table doesn't give back. */
+static int tell_spare(const struct table *table, const struct file *file)
+{
+    int status = 0;
+    for (size_t record = 0; record < file->len / table->record_bytes; record++) {
+        const uint8_t *end = file->bytes + (record + 1) * table->record_bytes;
+        if (get_number(end - table->spare, table->spare) == 0)
+            continue;
+        fprintf(stderr, "%s: record %zu: its spare bytes aren't zero, and the table leaves them out\n", file->path,
+                record);
+        status = -1;
+    }
+    return status;
+}
+
+static int tell_length(const struct table *table, const struct file *file)
+{
+    if (file->len % table->record_bytes == 0)
+        return 0;
+    fprintf(stderr, "%s: %zu bytes, the last record isn't whole (%zu bytes each)\n", file->path, file->len,
+            table->record_bytes);
+    return -1;
 }
 
 static int show_table(const struct table *table, const char *folder)
@@ -346,10 +393,9 @@ static int show_table(const struct table *table, const char *folder)
     if (read_file(&file, folder, table->bin) != 0)
         return -1;
     print_table(table, &file);
-    int status = file.len % table->record_bytes == 0 ? 0 : -1;
-    if (status != 0)
-        fprintf(stderr, "%s: %zu bytes, the last record isn't whole (%zu bytes each)\n", file.path, file.len,
-                table->record_bytes);
+    int status = tell_spare(table, &file);
+    if (tell_length(table, &file) != 0)
+        status = -1;
     free(file.bytes);
     return status;
 }

@@ -9,6 +9,7 @@
  * Where a count is asked for, so are the supply and the margin. A site's answers
  * must also be what the archive says of each record alone, a judged least margin
  * what it says of some whole tick, and all calls must refuse a slot table alike.
+ * Two good boards with the same slots for a task's id must give it the same.
  * The first difference is printed with its seed, number and bytes, and ends
  * the run. So does, at the end, a class of inputs that was never met.
  */
@@ -26,7 +27,7 @@ enum {
     GUARD = 64,
     SETS_MAX = 6,        /* free slots whose sets are all tried after a refusal 13 */
     SETS_WHEEL_MAX = 48, /* and the longest wheel for it */
-    LONG_SITE = 5000,    /* records; their bytes and those of the answers both go beyond 16 bits */
+    LONG_SITE = 5000,    /* records; their bytes, their slots' and their answers' all go beyond 16 bits */
 };
 
 /* The definition has its sizes from the rules. */
@@ -271,7 +272,7 @@ static bool answers_hold(const struct lent_buffers *buffers)
 /* The refusals of a slot table, which are all that which slot knows. */
 static bool of_table(uint32_t number)
 {
-    return number == 1 || number == 3 || number == 4 || (number >= 14 && number <= 17);
+    return number == 1 || number == 3 || number == 4 || (number >= 14 && number <= 19);
 }
 
 /* Whether a call says of the table what which slot says; a short reply is refused before the table is looked at. */
@@ -379,6 +380,68 @@ static bool agree(const struct input *in, struct lent_buffers *buffers, struct t
     return same;
 }
 
+/* ---- pairs of boards ---- */
+
+/* What the archive says of one of them. */
+struct heard {
+    uint32_t number;
+    uint8_t reply[REPLY_ROOM];
+    uint64_t count, supply, margin;
+};
+
+static struct heard hear(const struct input *in)
+{
+    struct heard heard;
+    memcpy(heard.reply, in->reply, REPLY_ROOM);
+    heard.number = fiddlequill_judge(in->task, in->task_len, in->slots, in->slots_len, heard.reply, in->reply_len);
+    heard.count = fiddlequill_count(in->task, in->task_len, in->slots, in->slots_len, in->offset);
+    heard.supply = fiddlequill_supply(in->task, in->task_len, in->slots, in->slots_len, in->offset);
+    heard.margin = fiddlequill_margin(in->task, in->task_len, in->slots, in->slots_len, in->offset);
+    return heard;
+}
+
+static void print_heard(const struct input *in, const struct heard *heard)
+{
+    printf("  judged with %" PRIu32 "; at half tick %" PRIu64 " count %#" PRIx64 ", supply %#" PRIx64
+           ", margin %#" PRIx64 "\n",
+           heard->number, in->offset, heard->count, heard->supply, heard->margin);
+    print_hex("reply", heard->reply, in->reply_len);
+    print_input(in);
+}
+
+/* The same answer, byte for byte, whatever slots others have and wherever first and count point. */
+static bool boards_agree(const struct input pair[2], struct tally *tally)
+{
+    if (!is_same_for_owner(&pair[0], &pair[1])) {
+        printf("  a pair of boards that aren't both good, or not the same for their owner\n");
+        print_input(&pair[0]);
+        print_input(&pair[1]);
+        return false;
+    }
+    struct heard one = hear(&pair[0]), other = hear(&pair[1]);
+    tally_add_pair(tally, &pair[0], &pair[1], one.reply, fiddlequill_number(one.count));
+    if (one.number == other.number && memcmp(one.reply, other.reply, REPLY_ROOM) == 0 && one.count == other.count &&
+        one.supply == other.supply && one.margin == other.margin)
+        return true;
+    printf("  two boards that are the same for their owner don't give the same:\n");
+    print_heard(&pair[0], &one);
+    print_heard(&pair[1], &other);
+    return false;
+}
+
+/* Each of the two is judged and counted as any other input; then they are held against each other. */
+static bool pair_agrees(struct input pair[2], struct lent_buffers *buffers, struct tally *tally, struct rng *rng)
+{
+    static const enum kind kinds[2] = {JUDGE, COUNT};
+    for (size_t board = 0; board < 2; board++)
+        for (size_t i = 0; i < 2; i++) {
+            pair[board].kind = kinds[i];
+            if (!agree(&pair[board], buffers, tally, rng))
+                return false;
+        }
+    return boards_agree(pair, tally);
+}
+
 /* ---- the run ---- */
 
 /* The definition must say what the paper prints before it may speak for it. */
@@ -402,6 +465,28 @@ static bool hand_bits_agree(void)
     return true;
 }
 
+static bool hand_pairs_agree(struct input pair[2], struct lent_buffers *buffers)
+{
+    struct tally unused = {0};
+    struct rng rng = rng_for(0, 0);
+    for (size_t i = 0; i < hand_pair_count(); i++) {
+        struct expected judged, counted;
+        bool defined = true;
+        const char *name = hand_pair(i, &pair[0], &pair[1], &judged, &counted);
+        for (size_t board = 0; board < 2; board++) {
+            pair[board].kind = JUDGE;
+            defined = defined && said_by_definition(&pair[board], &judged);
+            pair[board].kind = COUNT;
+            defined = defined && said_by_definition(&pair[board], &counted);
+        }
+        if (!defined || !pair_agrees(pair, buffers, &unused, &rng)) {
+            printf("second: pair by hand \"%s\" differs from %s\n", name, defined ? "the archive" : "the definition");
+            return false;
+        }
+    }
+    return true;
+}
+
 static bool hand_cases_agree(struct input *in, struct lent_buffers *buffers)
 {
     struct tally unused = {0}; /* classes must be met by the seeded inputs */
@@ -415,20 +500,35 @@ static bool hand_cases_agree(struct input *in, struct lent_buffers *buffers)
             return false;
         }
     }
-    printf("second: %zu cases by hand as printed\n", hand_count() + HAND_BITS);
+    printf("second: %zu cases and %zu pairs by hand as printed\n", hand_count() + HAND_BITS, hand_pair_count());
     return true;
 }
 
-/* T of the paper again and again, with needs from a refused 0 to more than any supply, each record with its own id. */
+/*
+ * T of the paper again and again, with needs from a refused 0 to more than any supply. Each record has an id of its
+ * own, the last of them ids that no task may have, and a board of two slots, of which T's is the first.
+ */
+static void fill_long_site(uint8_t *tasks, uint8_t *slots)
+{
+    static const uint32_t board[2][2] = {{0, 8}, {8, 10}};
+    for (uint32_t i = 0; i < LONG_SITE; i++) {
+        struct task task = {ID_MAX - 3 * LONG_SITE / 4 + i, 10, i % 7, 5, 14, 1, 2, 2 * i, 2};
+        task_to_bytes(&task, tasks + i * TASK_BYTES);
+        for (uint32_t j = 0; j < 2; j++) {
+            uint8_t *slot = slots + (2 * i + j) * SLOT_BYTES;
+            put_number(slot, board[j][0], 4);
+            put_number(slot + 4, board[j][1], 4);
+            put_number(slot + OWNER_AT, task.id + j, 2);
+        }
+    }
+}
+
 static bool long_site_agrees(void)
 {
-    static uint8_t tasks[LONG_SITE * TASK_BYTES], slots[SLOT_BYTES] = {[4] = 8}, reply[LONG_SITE * ANSWER_BYTES];
+    static uint8_t tasks[LONG_SITE * TASK_BYTES], slots[2 * LONG_SITE * SLOT_BYTES], reply[LONG_SITE * ANSWER_BYTES];
     struct lent_buffers buffers = {lent_room(sizeof tasks), lent_room(sizeof slots), lent_room(sizeof reply), {0}};
     struct rng rng = rng_for(0, 1);
-    for (uint32_t i = 0; i < LONG_SITE; i++) {
-        struct task task = {i, 10, i % 7, 5, 14, 1, 2, 0, 1};
-        task_to_bytes(&task, tasks + i * TASK_BYTES);
-    }
+    fill_long_site(tasks, slots);
     const uint8_t *lent_tasks = lend(&buffers.task, tasks, sizeof tasks, false, &rng);
     const uint8_t *lent_slots = lend(&buffers.slots, slots, sizeof slots, false, &rng);
     uint8_t *lent_reply = lend(&buffers.reply, reply, sizeof reply, false, &rng);
@@ -443,26 +543,30 @@ static bool long_site_agrees(void)
     return same;
 }
 
-static bool seeded_inputs_agree(struct input *in, struct lent_buffers *buffers, struct tally *tally, uint64_t inputs,
+static bool seeded_inputs_agree(struct input in[2], struct lent_buffers *buffers, struct tally *tally, uint64_t inputs,
                                 uint64_t seed)
 {
     for (uint64_t number = 0; number < inputs; number++) {
         struct rng rng = rng_for(seed, number);
-        make_input(in, &rng, number);
-        if (!agree(in, buffers, tally, &rng)) {
+        bool pair = is_pair(number);
+        if (pair)
+            make_pair(&in[0], &in[1], &rng);
+        else
+            make_input(in, &rng, number);
+        if (!(pair ? pair_agrees(in, buffers, tally, &rng) : agree(in, buffers, tally, &rng))) {
             printf("second: DIFFERENCE at seed %" PRIu64 ", input %" PRIu64 " (%s)\n", seed, number,
-                   kind_names[in->kind]);
+                   pair ? "pair" : kind_names[in->kind]);
             return false;
         }
     }
     return true;
 }
 
-static bool run(struct input *in, struct lent_buffers *buffers, uint64_t inputs, uint64_t seed)
+static bool run(struct input in[2], struct lent_buffers *buffers, uint64_t inputs, uint64_t seed)
 {
     struct tally tally = {0};
-    if (!hand_bits_agree() || !hand_cases_agree(in, buffers) || !long_site_agrees() ||
-        !seeded_inputs_agree(in, buffers, &tally, inputs, seed))
+    if (!hand_bits_agree() || !hand_pairs_agree(in, buffers) || !hand_cases_agree(in, buffers) ||
+        !long_site_agrees() || !seeded_inputs_agree(in, buffers, &tally, inputs, seed))
         return false;
     unsigned never = tally_print(&tally);
     printf("second: %" PRIu64 " inputs, 0 differences", inputs);
@@ -478,14 +582,15 @@ int main(int argc, char **argv)
     uint64_t seed = argc > 2 ? number_argument("second", argv[2]) : DEFAULT_SEED;
     struct lent_buffers buffers = {lent_room(SITE_TASKS_ROOM), lent_room(SLOTS_ROOM), lent_room(SITE_REPLY_ROOM),
                                    lent_room(MARKS_ROOM)};
-    struct lent slots = lent_room(SLOTS_ROOM);
-    struct input in = {.slots = slots.room};
+    struct lent slots[2] = {lent_room(SLOTS_ROOM), lent_room(SLOTS_ROOM)};
+    struct input in[2] = {{.slots = slots[0].room}, {.slots = slots[1].room}};
     printf("second: seed %" PRIu64 "\n", seed);
-    bool good = run(&in, &buffers, inputs, seed);
+    bool good = run(in, &buffers, inputs, seed);
     free(buffers.task.room);
     free(buffers.slots.room);
     free(buffers.reply.room);
     free(buffers.marks.room);
-    free(slots.room);
+    free(slots[0].room);
+    free(slots[1].room);
     return good ? 0 : 1;
 }

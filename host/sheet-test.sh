@@ -111,21 +111,31 @@ fresh; rm "$folder/site/slots.bin"; mkdir "$folder/site/slots.bin"
 says 'a folder for slots.bin' "make sheet: $folder/site/slots.bin: not a file" "$only"
 fresh; rm "$folder/site"/*; cp "$site"/*.csv "$folder/site"
 says 'tables' '' "$whole"
-# Tables with a bad slot make a sheet like any others, and the slot's line is said beside it.
+# Tables with a bad slot or too large an id make a sheet like any others, and the line is said beside it.
 fresh; rm "$folder/site"/*
-printf 'id,w,e,D,h,m,k,first,count\n1,55,27,70,70,3,10,0,2\n' >"$folder/site/tasks.csv"
-printf 'start,end\n11,21\n33,56\n' >"$folder/site/slots.csv"
-says 'a bad slot' "$folder/site/slots.csv:3: slot 1 of task 1 ($folder/site/tasks.csv:2): a slot whose end is above the wheel w" '1 16 0 0 0'
+printf 'id,w,e,D,h,m,k,first,count\n1,55,27,70,70,3,10,0,2\n65537,55,27,70,70,3,10,0,2\n' >"$folder/site/tasks.csv"
+printf 'start,end,owner\n11,21,1\n33,56,2\n' >"$folder/site/slots.csv"
+past='a slot whose end is above the wheel w'
+says 'a bad slot and a bad id' \
+    "$folder/site/slots.csv:3: slot 1 (owner 2) of the board of task 1 ($folder/site/tasks.csv:2): $past
+$folder/site/tasks.csv:3: task 65537: the id isn't from 0 to 65,535" \
+    '1 16 0 0 0
+65537 19 0 0 0'
 fresh; rm "$folder/site"/*; cp "$site/tasks.csv" "$folder/site"
 says 'no slots.csv' "make sheet: $folder/site/slots.csv: no such file" "$only"
 fresh; rm "$folder/site"/*; cp "$site/slots.csv" "$folder/site"
 says 'no tasks.csv' "make sheet: $folder/site/tasks.csv: no such file" "$only"
 
 # No sheet stands for a table that can't be read or a site that isn't there.
-tried=$((tried + 2))
+tried=$((tried + 3))
 fresh; rm "$folder/site"/*; cp "$site"/*.csv "$folder/site"; echo 1 >>"$folder/site/slots.csv"
 "$here/sheet.sh" "$sheet" "$records" "$folder/site" "$folder/room" >/dev/null 2>&1 && fail 'a bad table: taken'
 "$here/sheet.sh" "$sheet" "$records" "$folder/none" "$folder/room" >/dev/null 2>&1 && fail 'no site: taken'
+printf 'start,end\n11,21\n33,43\n0,8\n' >"$folder/site/slots.csv"
+"$here/sheet.sh" "$sheet" "$records" "$folder/site" "$folder/room" >"$folder/said" 2>&1 &&
+    fail 'slots without owners: taken'
+[ "$(cat "$folder/said")" = "$folder/site/slots.csv:1: field owner: missing" ] ||
+    fail "slots without owners: said \"$(cat "$folder/said")\""
 
 echo "sheet-test: $tried cases, $failed failed"
 [ "$failed" -eq 0 ]

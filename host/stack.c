@@ -15,15 +15,16 @@
 #include <stdlib.h>
 #include <string.h>
 
-enum { STACK = 1 << 20, PAINT = 0xa5, PAGE = 4096, SITE_TASKS = 3 };
+enum { STACK = 1 << 20, PAINT = 0xa5, PAGE = 4096, SITE_TASKS = 3, TASK_ID = 1, FEW_SLOTS = 64 };
 
-/* The largest wheel, slot table and k; a need that makes some strips drop. */
+/* A wheel, its slots, all of them the task's, and the largest k; a need that makes some strips drop. */
 struct biggest {
     uint8_t task[FIDDLEQUILL_TASK_BYTES];
     uint8_t slots[FIDDLEQUILL_SLOTS_MAX * FIDDLEQUILL_SLOT_BYTES];
     uint8_t reply[FIDDLEQUILL_ANSWER_BYTES];
     uint8_t site[SITE_TASKS * FIDDLEQUILL_TASK_BYTES], replies[SITE_TASKS * FIDDLEQUILL_ANSWER_BYTES];
     uint8_t marks[FIDDLEQUILL_GRANT_SLOTS_MAX];
+    size_t slots_len;
     uint32_t w, e, h, k, number;
 };
 
@@ -38,22 +39,26 @@ static void fill_site(struct biggest *b)
     }
 }
 
-static void fill(struct biggest *b, uint32_t w)
+/* At most half as many slots as ticks. */
+static void fill(struct biggest *b, uint32_t w, uint32_t slots)
 {
-    const uint32_t pitch = w / FIDDLEQUILL_SLOTS_MAX;
+    const uint32_t pitch = w / slots;
     b->w = w;
     b->k = FIDDLEQUILL_STRIPS_MAX;
     b->h = w + w / 3 + 1;
     b->e = b->h / 2;
-    const uint32_t fields[] = {1, b->w, b->e, b->h, b->h, 1, b->k};
+    const uint32_t fields[] = {TASK_ID, b->w, b->e, b->h, b->h, 1, b->k};
     for (size_t i = 0; i < sizeof fields / sizeof *fields; i++)
         put_number(b->task + 4 * i, fields[i], 4);
     put_number(b->task + 28, 0, 2);
-    put_number(b->task + 30, FIDDLEQUILL_SLOTS_MAX, 2);
+    put_number(b->task + 30, slots, 2);
     fill_site(b);
-    for (uint32_t i = 0; i < FIDDLEQUILL_SLOTS_MAX; i++) {
-        put_number(b->slots + i * FIDDLEQUILL_SLOT_BYTES, i * pitch, 4);
-        put_number(b->slots + i * FIDDLEQUILL_SLOT_BYTES + 4, i * pitch + pitch / 2, 4);
+    b->slots_len = slots * FIDDLEQUILL_SLOT_BYTES;
+    for (uint32_t i = 0; i < slots; i++) {
+        uint8_t *slot = b->slots + i * FIDDLEQUILL_SLOT_BYTES;
+        put_number(slot, i * pitch, 4);
+        put_number(slot + 4, i * pitch + pitch / 2, 4);
+        put_number(slot + 8, TASK_ID, 4); /* the owner, and zero for the spare bytes */
     }
     memset(b->marks, 1, sizeof b->marks);
 }
@@ -67,7 +72,7 @@ static void *idle(void *context)
 static void *judge(void *context)
 {
     struct biggest *b = context;
-    b->number = fiddlequill_judge(b->task, sizeof b->task, b->slots, sizeof b->slots, b->reply, sizeof b->reply);
+    b->number = fiddlequill_judge(b->task, sizeof b->task, b->slots, b->slots_len, b->reply, sizeof b->reply);
     return NULL;
 }
 
@@ -75,7 +80,7 @@ static void *judge(void *context)
 static void *site(void *context)
 {
     struct biggest *b = context;
-    b->number = fiddlequill_site(b->site, sizeof b->site, b->slots, sizeof b->slots, b->replies, sizeof b->replies);
+    b->number = fiddlequill_site(b->site, sizeof b->site, b->slots, b->slots_len, b->replies, sizeof b->replies);
     for (size_t i = 0; i < SITE_TASKS && b->number == FIDDLEQUILL_OK; i++)
         b->number = get_number(b->replies + i * FIDDLEQUILL_ANSWER_BYTES + 4, 2);
     return NULL;
@@ -84,28 +89,28 @@ static void *site(void *context)
 static void *which_slot(void *context)
 {
     struct biggest *b = context;
-    b->number = fiddlequill_number(fiddlequill_which_slot(b->task, sizeof b->task, b->slots, sizeof b->slots));
+    b->number = fiddlequill_number(fiddlequill_which_slot(b->task, sizeof b->task, b->slots, b->slots_len));
     return NULL;
 }
 
 static void *count(void *context)
 {
     struct biggest *b = context;
-    b->number = fiddlequill_number(fiddlequill_count(b->task, sizeof b->task, b->slots, sizeof b->slots, 1));
+    b->number = fiddlequill_number(fiddlequill_count(b->task, sizeof b->task, b->slots, b->slots_len, 1));
     return NULL;
 }
 
 static void *supply(void *context)
 {
     struct biggest *b = context;
-    b->number = fiddlequill_number(fiddlequill_supply(b->task, sizeof b->task, b->slots, sizeof b->slots, 1));
+    b->number = fiddlequill_number(fiddlequill_supply(b->task, sizeof b->task, b->slots, b->slots_len, 1));
     return NULL;
 }
 
 static void *margin(void *context)
 {
     struct biggest *b = context;
-    b->number = fiddlequill_number(fiddlequill_margin(b->task, sizeof b->task, b->slots, sizeof b->slots, 1));
+    b->number = fiddlequill_number(fiddlequill_margin(b->task, sizeof b->task, b->slots, b->slots_len, 1));
     return NULL;
 }
 
@@ -124,7 +129,7 @@ static void give_up(const char *what)
 }
 
 /* Bytes of stack that lost their paint. */
-static size_t depth_of(void *(*call)(void *), uint32_t w)
+static size_t depth_of(void *(*call)(void *), uint32_t w, uint32_t slots)
 {
     struct biggest biggest;
     pthread_attr_t attributes;
@@ -133,7 +138,7 @@ static size_t depth_of(void *(*call)(void *), uint32_t w)
     if (stack == NULL)
         give_up("no memory");
     memset(stack, PAINT, STACK);
-    fill(&biggest, w);
+    fill(&biggest, w, slots);
     if (pthread_attr_init(&attributes) != 0 || pthread_attr_setstack(&attributes, stack, STACK) != 0 ||
         pthread_create(&thread, &attributes, call, &biggest) != 0 || pthread_join(thread, NULL) != 0)
         give_up("no thread");
@@ -154,12 +159,23 @@ int main(void)
         void *(*call)(void *);
     } calls[] = {{"judge", judge}, {"site", site},     {"which slot", which_slot}, {"count", count},
                  {"supply", supply}, {"margin", margin}, {"grant", grant}};
-    static const uint32_t wheels[] = {128, 1280, 4096, FIDDLEQUILL_WHEEL_MAX};
+    static const struct {
+        uint32_t w, slots;
+    } boards[] = {
+        {128, FEW_SLOTS},
+        {1280, FEW_SLOTS},
+        {1280, FIDDLEQUILL_SLOTS_MAX},
+        {4096, FEW_SLOTS},
+        {4096, FIDDLEQUILL_SLOTS_MAX},
+        {FIDDLEQUILL_WHEEL_MAX, FEW_SLOTS},
+        {FIDDLEQUILL_WHEEL_MAX, FIDDLEQUILL_SLOTS_MAX},
+    };
     size_t deepest = 0;
     for (size_t i = 0; i < sizeof calls / sizeof *calls; i++)
-        for (size_t j = 0; j < sizeof wheels / sizeof *wheels; j++) {
-            size_t depth = depth_of(calls[i].call, wheels[j]) - depth_of(idle, wheels[j]);
-            printf("%s with w %u: %zu bytes\n", calls[i].name, (unsigned)wheels[j], depth);
+        for (size_t j = 0; j < sizeof boards / sizeof *boards; j++) {
+            const uint32_t w = boards[j].w, slots = boards[j].slots;
+            size_t depth = depth_of(calls[i].call, w, slots) - depth_of(idle, w, slots);
+            printf("%s with w %u, %u slots: %zu bytes\n", calls[i].name, (unsigned)w, (unsigned)slots, depth);
             deepest = depth > deepest ? depth : deepest;
         }
     printf("stack: %zu bytes at most, %u allowed\n", deepest, FIDDLEQUILL_STACK_BYTES);

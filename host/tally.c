@@ -3,6 +3,7 @@
 
 #include <inttypes.h>
 #include <stdio.h>
+#include <stdlib.h>
 #include <string.h>
 
 static void note(struct tally *tally, enum input_class which, bool met)
@@ -28,18 +29,6 @@ static void note_edge(struct tally *tally, uint64_t w, enum edge_use use, bool m
         tally->edges[i][use] += met && w == wheel_edges[i];
 }
 
-/* Where the first bad slot of a record is, if one is refused. */
-static void note_place(struct tally *tally, enum kind kind, const uint8_t *record, const struct input *input)
-{
-    uint64_t which = definition_which_slot(record, TASK_BYTES, input->slots, input->slots_len);
-    uint32_t number = (uint32_t)(which >> 32), place = (uint32_t)which;
-    if (number < ABOUT_SLOT)
-        return;
-    bool last = place + 1 == task_of_bytes(record).count;
-    enum slot_place where = place == 0 ? FIRST_PLACE : last ? LAST_PLACE : MIDDLE_PLACE;
-    tally->places[kind][number - ABOUT_SLOT][where]++;
-}
-
 static uint32_t start_of(const struct input *input, size_t record)
 {
     return get_number(input->slots + record * SLOT_BYTES, 4);
@@ -50,26 +39,160 @@ static uint32_t end_of(const struct input *input, size_t record)
     return get_number(input->slots + record * SLOT_BYTES + 4, 4);
 }
 
+static uint32_t spare_of(const struct input *input, size_t record)
+{
+    return get_number(input->slots + record * SLOT_BYTES + SPARE_AT, 2);
+}
+
+static bool owns(const struct task *task, const struct input *input, size_t record)
+{
+    return owner_at(input->slots, record) == task->id;
+}
+
+/* ---- the first bad slot ---- */
+
+static bool about_slot(uint32_t number)
+{
+    return number >= ABOUT_SLOT && number < ABOUT_SLOT + SLOT_NUMBERS;
+}
+
+/* Refusal 17 by whom the slot and the one before it belong to. */
+static void add_early(struct tally *tally, const struct task *task, const struct input *input, uint32_t place)
+{
+    const size_t record = task->first + place;
+    const bool own = owns(task, input, record), own_before = owns(task, input, record - 1);
+    size_t last = record;
+    while (last > task->first && !owns(task, input, last - 1))
+        last--;
+    bool fits_own = last > task->first && start_of(input, record) >= end_of(input, last - 1);
+    bool third = owner_at(input->slots, record) != owner_at(input->slots, record - 1);
+    note(tally, EARLY_OWN, own && !own_before && fits_own);
+    note(tally, EARLY_OTHER, !own && own_before);
+    note(tally, EARLY_THIRD, !own && !own_before && third);
+}
+
+/* The task has slots, and nothing is wrong with them. */
+static bool own_slots_do(const struct task *task, const struct input *input)
+{
+    uint32_t owned = 0;
+    for (uint32_t place = 0; place < task->count; place++) {
+        if (!owns(task, input, task->first + place))
+            continue;
+        if (refusal_of_slot(task, input->slots, place) != 0)
+            return false;
+        owned++;
+    }
+    return owned > 0;
+}
+
+/* The first bad slot of a record, if one is refused. */
+static void note_bad_slot(struct tally *tally, enum kind kind, const uint8_t *bytes, const struct input *input)
+{
+    const uint64_t which = definition_which_slot(bytes, TASK_BYTES, input->slots, input->slots_len);
+    const uint32_t number = (uint32_t)(which >> 32), place = (uint32_t)which;
+    if (!about_slot(number))
+        return;
+    struct task task = task_of_bytes(bytes);
+    const uint32_t spare = spare_of(input, task.first + place);
+    const bool last = place + 1 == task.count;
+    uint64_t *met = tally->bad_slots[kind][number - ABOUT_SLOT];
+    met[place == 0 ? FIRST_PLACE : last ? LAST_PLACE : MIDDLE_PLACE]++;
+    met[owns(&task, input, task.first + place) ? OWN_SLOT : OTHERS_SLOT]++;
+    if (number == 17)
+        add_early(tally, &task, input, place);
+    note(tally, SPARE_FIRST, number == 18 && spare < 256);
+    note(tally, SPARE_SECOND, number == 18 && spare % 256 == 0);
+    note(tally, BAD_OTHERS, own_slots_do(&task, input));
+}
+
+/* ---- good boards ---- */
+
+/* What a good board is like for its task. */
+struct board {
+    uint32_t owned, others;       /* slots */
+    uint32_t owned_ticks, ticks;  /* of the task's slots, and of all */
+    bool touching, touches_other; /* slots of the task's each other, and one of them another owner's */
+    bool between;                 /* another owner's slot lies between two of the task's */
+    bool low, high;               /* another owner has the id's lower byte, or its upper one */
+};
+
+static struct board board_of(const struct task *task, const struct input *input)
+{
+    struct board board = {0};
+    uint32_t others_then = 0; /* when the task's last slot was met */
+    for (size_t i = task->first; i < task->first + task->count; i++) {
+        const uint32_t owner = owner_at(input->slots, i), ticks = end_of(input, i) - start_of(input, i);
+        const bool own = owner == task->id;
+        if (i > task->first && start_of(input, i) == end_of(input, i - 1)) {
+            board.touching |= own && owns(task, input, i - 1);
+            board.touches_other |= own != owns(task, input, i - 1);
+        }
+        if (own) {
+            board.between |= board.owned > 0 && board.others > others_then;
+            others_then = board.others;
+        }
+        board.owned += own;
+        board.others += !own;
+        board.owned_ticks += own ? ticks : 0;
+        board.ticks += ticks;
+        board.low |= !own && owner % 256 == task->id % 256;
+        board.high |= !own && owner / 256 == task->id / 256;
+    }
+    return board;
+}
+
+/* A record that would be a good slot on a wheel, and the task's. */
+static bool fits_task(const struct task *task, const struct input *input, size_t record)
+{
+    return start_of(input, record) < end_of(input, record) && end_of(input, record) <= task->w &&
+           spare_of(input, record) == 0 && owns(task, input, record);
+}
+
+/* Slots with the task's id just outside its board: they aren't the task's. */
+static void add_outsiders(struct tally *tally, const struct task *task, const struct input *input)
+{
+    const size_t first = task->first, behind = first + task->count;
+    const bool bare = task->count == 0;
+    bool before = first > 0 && fits_task(task, input, first - 1) &&
+                  (bare || end_of(input, first - 1) <= start_of(input, first));
+    bool after = behind < input->slots_len / SLOT_BYTES && fits_task(task, input, behind) &&
+                 (bare || end_of(input, behind - 1) <= start_of(input, behind));
+    note(tally, OUTSIDE_BEFORE, before);
+    note(tally, OUTSIDE_BEHIND, after);
+}
+
+static void add_owners(struct tally *tally, const struct task *task, const struct board *board)
+{
+    const bool shared = board->owned > 0 && board->others > 0;
+    note(tally, OWNER_ALONE, board->owned > 1 && board->others == 0);
+    note(tally, OWNER_NONE, board->owned == 0 && board->others > 0);
+    note(tally, OWNER_BETWEEN, board->between);
+    note(tally, OWNER_LOW, board->low);
+    note(tally, OWNER_HIGH, board->high);
+    note(tally, OWNER_0, shared && task->id == 0);
+    note(tally, OWNER_65535, shared && task->id == ID_MAX);
+}
+
 /* ---- tasks ---- */
 
-static void add_table(struct tally *tally, const struct task *task, const struct input *input)
+static void add_table(struct tally *tally, const struct task *task, const struct input *input,
+                      const struct board *board)
 {
-    uint32_t touching = 0, inside = 0, previous_end = UINT32_MAX;
-    for (uint32_t i = 0; i < task->count; i++) {
-        const uint8_t *slot = input->slots + (size_t)(task->first + i) * SLOT_BYTES;
-        uint32_t start = get_number(slot, 4), end = get_number(slot + 4, 4);
-        touching += start == previous_end;
-        inside += end - start;
-        previous_end = end;
-    }
     note(tally, NO_SLOTS, task->count == 0);
     note(tally, NULL_SLOTS, input->slots_len == 0 && input->null_when_empty);
-    note(tally, TOUCHING, touching > 0);
-    note(tally, FULL_WHEEL, inside == task->w);
-    note(tally, ALL_SLOTS, task->count == SLOTS_MAX);
+    note(tally, TOUCHING, board->touching);
+    note(tally, TOUCHING_OTHER, board->touches_other);
+    note(tally, FULL_WHEEL, board->owned_ticks == task->w);
+    note(tally, FULL_BOARD, board->ticks == task->w && board->owned_ticks < task->w);
+    note(tally, RECORDS_64, task->count == GRANT_SLOTS_MAX);
+    note(tally, RECORDS_65, task->count == GRANT_SLOTS_MAX + 1);
+    note(tally, RECORDS_511, task->count == SLOTS_MAX - 1);
+    note(tally, RECORDS_512, task->count == SLOTS_MAX);
     note(tally, LAST_RECORDS, task->first > 0 && task->count > 0 &&
                                   task->first + task->count == input->slots_len / SLOT_BYTES);
     note(tally, LAST_FIRST, task->first == 65535 && task->count > 0);
+    add_owners(tally, task, board);
+    add_outsiders(tally, task, input);
 }
 
 static void add_accepted(struct tally *tally, const struct task *task)
@@ -91,22 +214,19 @@ struct turns {
     bool give, lack; /* the turns alone give more than e; with a full rest they would lack some of it */
 };
 
-static struct turns turns_of(const struct task *task, const struct input *input)
+static struct turns turns_of(const struct task *task, const struct board *board)
 {
-    uint64_t inside = 0, rest = task->D % task->w;
-    for (uint32_t i = 0; i < task->count; i++)
-        inside += end_of(input, task->first + i) - start_of(input, task->first + i);
-    uint64_t turns = task->D / task->w * inside;
+    uint64_t rest = task->D % task->w, turns = (uint64_t)(task->D / task->w) * board->owned_ticks;
     bool both = turns > 0 && rest > 0;
     return (struct turns){both && turns > task->e, both && turns + rest < task->e};
 }
 
-static void add_least(struct tally *tally, const struct task *task, const struct input *input,
+static void add_least(struct tally *tally, const struct task *task, const struct board *board,
                       const struct verdict *verdict)
 {
     const int64_t margin = verdict->least.sixths / 6;
     const bool lone = verdict->least.ticks == 1 && !verdict->least.shared;
-    struct turns turns = turns_of(task, input);
+    struct turns turns = turns_of(task, board);
     note(tally, LEAST_BELOW, margin < 0);
     note(tally, LEAST_ZERO, margin == 0);
     note(tally, LEAST_ABOVE, margin > 0);
@@ -121,8 +241,23 @@ static void add_least(struct tally *tally, const struct task *task, const struct
     note(tally, LEAST_FIRM, verdict->firm && margin < 0);
 }
 
-static void add_judged(struct tally *tally, const struct task *task, const struct input *input,
+/* What the answer would be if every slot were the task's. */
+static void add_shared(struct tally *tally, const struct task *task, const struct input *input,
                        const struct verdict *verdict)
+{
+    const uint64_t first = verdict->least.first;
+    struct strips strips = strips_of_task(task);
+    struct wheel own, all;
+    wheel_of_task(&own, task, input->slots);
+    wheel_of_board(&all, task, input->slots);
+    note(tally, SHARED_DROPS, verdict->worst > 0 && verdict->worst < task->k);
+    note(tally, SHARED_WORST, margin_at(&own, &strips, 2, verdict->offset) < 0 &&
+                                  margin_at(&all, &strips, 2, verdict->offset) >= 0);
+    note(tally, SHARED_LEAST, margin_at(&own, &strips, 1, first) < margin_at(&all, &strips, 1, first));
+}
+
+static void add_judged(struct tally *tally, const struct task *task, const struct input *input,
+                       const struct board *board, const struct verdict *verdict)
 {
     bool some = verdict->worst > 0 && verdict->worst < task->k;
     note(tally, DROPS_NONE, verdict->worst == 0);
@@ -142,11 +277,16 @@ static void add_judged(struct tally *tally, const struct task *task, const struc
     note(tally, LONG_REPLY, input->reply_len == ANSWER_BYTES + 1);
     note(tally, LARGE_WHEEL, task->w > WHEEL_MAX / 2 && some);
     note(tally, MANY_STRIPS, task->k > STRIPS_MAX / 2 && some);
-    note_edge(tally, task->w, edge_use_of(task), verdict->worst > 0);
-    add_least(tally, task, input, verdict);
+    note(tally, OWNED_65, board->owned > GRANT_SLOTS_MAX && verdict->worst > 0);
+    note(tally, OWNED_512, board->owned == SLOTS_MAX && verdict->worst > 0);
+    note_edge(tally, task->w, edge_use_of(task, board->owned), verdict->worst > 0);
+    add_least(tally, task, board, verdict);
+    if (board->owned > 0 && board->others > 0)
+        add_shared(tally, task, input, verdict);
 }
 
-static void add_counted(struct tally *tally, const struct task *task, const struct input *input, uint64_t count)
+static void add_counted(struct tally *tally, const struct task *task, const struct input *input,
+                        const struct board *board, uint64_t count)
 {
     bool some = count > 0 && count < task->k;
     note(tally, COUNTED_SOME, some);
@@ -156,16 +296,25 @@ static void add_counted(struct tally *tally, const struct task *task, const stru
     note(tally, COUNTED_OVER, some && task->k > task->w && task->k % task->w != 0);
     note(tally, COUNTED_ODD, count > 0 && input->offset % 2 == 1);
     note(tally, LAST_OFFSET, input->offset + 1 == 2 * (uint64_t)task->w);
+    note(tally, SHARED_COUNT, some && board->owned > 0 && board->others > 0);
+    note(tally, COUNTED_65, board->owned > GRANT_SLOTS_MAX && count > 0);
+    note(tally, COUNTED_512, board->owned == SLOTS_MAX && count > 0);
     note_edge(tally, task->w, EDGE_COUNT, count > 0);
 }
 
-static void add_point(struct tally *tally, const struct task *task, const struct input *input,
-                      const struct expected *expected)
+static uint64_t supply_of_board(const struct task *task, const struct input *input)
 {
-    const uint64_t supply = expected->supply;
+    struct wheel wheel;
+    wheel_of_board(&wheel, task, input->slots);
+    return supply_at(&wheel, task->D, 2, input->offset);
+}
+
+static void add_point(struct tally *tally, const struct task *task, const struct input *input,
+                      const struct board *board, uint64_t supply)
+{
     const int64_t margin = (int64_t)supply - 2 * (int64_t)task->e;
     const bool even = input->offset % 2 == 0;
-    struct turns turns = turns_of(task, input);
+    struct turns turns = turns_of(task, board);
     note(tally, MARGIN_BELOW_EVEN, even && margin < 0);
     note(tally, MARGIN_ZERO_EVEN, even && margin == 0);
     note(tally, MARGIN_ABOVE_EVEN, even && margin > 0);
@@ -182,6 +331,13 @@ static void add_point(struct tally *tally, const struct task *task, const struct
     note(tally, SUPPLIED_FULL, supply == 2 * (uint64_t)task->D);
     note(tally, SUPPLIED_HALF, supply % 2 == 1);
     note(tally, SUPPLIED_WIDE, supply > 65535);
+    note(tally, SHARED_SUPPLY, board->others > 0 && supply_of_board(task, input) > supply);
+}
+
+/* Slots that would be whole records of eight bytes, but aren't of twelve. */
+static bool eights(const struct input *input)
+{
+    return input->slots_len % 8 == 0 && input->slots_len % SLOT_BYTES != 0;
 }
 
 static void add_sizes(struct tally *tally, const struct input *input, uint32_t number)
@@ -190,19 +346,61 @@ static void add_sizes(struct tally *tally, const struct input *input, uint32_t n
     note(tally, TASK_31, input->task_len == TASK_BYTES - 1);
     note(tally, TASK_33, input->task_len == TASK_BYTES + 1);
     note(tally, SLOTS_ODD, input->slots_len % SLOT_BYTES != 0 && input->task_len == TASK_BYTES);
+    note(tally, SLOTS_EIGHT, eights(input) && input->task_len == TASK_BYTES);
     note(tally, REPLY_EMPTY, number == 2 && input->reply_len == 0);
     note(tally, REPLY_SHORT, number == 2 && input->reply_len == ANSWER_BYTES - 1);
     note(tally, REPLY_NO_MARGIN, number == 2 && input->reply_len == MARGIN_AT);
 }
 
-/* Which slot, if the task had no more than its first 64: is it their number alone that is refused? */
-static uint64_t which_of_64(const struct task *task, const struct input *input)
+static uint64_t which_of(const struct task *task, const struct input *input)
+{
+    uint8_t bytes[TASK_BYTES];
+    task_to_bytes(task, bytes);
+    return definition_which_slot(bytes, TASK_BYTES, input->slots, input->slots_len);
+}
+
+/* Which slot, if the board had no more than its first 512: is it their number alone that is refused? */
+static uint64_t which_of_512(const struct task *task, const struct input *input)
 {
     struct task less = *task;
-    uint8_t bytes[TASK_BYTES];
     less.count = SLOTS_MAX;
-    task_to_bytes(&less, bytes);
-    return definition_which_slot(bytes, TASK_BYTES, input->slots, input->slots_len);
+    return which_of(&less, input);
+}
+
+/* Whether an id that is cut to 16 bits would own a slot, and the board would be good for it. */
+static bool cut_id_would_do(const struct task *task, const struct input *input)
+{
+    struct task cut = *task;
+    cut.id %= ID_MAX + 1;
+    return which_of(&cut, input) == 0 && owned_slots(&cut, input->slots) > 0;
+}
+
+static bool bad_wheel(const struct task *task)
+{
+    return task->w == 0 || task->w > WHEEL_MAX;
+}
+
+/* Whether one of the records that a task selects, all of which are there, has the number; 0 stands for any. */
+static bool some_slot_has(const struct task *task, const struct input *input, uint32_t number)
+{
+    for (uint32_t place = 0; place < task->count; place++) {
+        uint32_t trouble = refusal_of_slot(task, input->slots, place);
+        if (trouble != 0 && (number == 0 || trouble == number))
+            return true;
+    }
+    return false;
+}
+
+/* What else is wrong with a table beside its task's id: classes of judging and counting, or of which slot. */
+static void add_bad_id(struct tally *tally, const struct task *task, const struct input *input, bool which)
+{
+    note(tally, which ? WHICH_ID_65536 : ID_65536, task->id == ID_MAX + 1);
+    note(tally, which ? WHICH_ID_WIDE : ID_WIDE, task->id == UINT32_MAX);
+    note(tally, which ? WHICH_ID_LOW : ID_LOW, cut_id_would_do(task, input));
+    note(tally, which ? WHICH_19_4 : ORDER_19_4, bad_wheel(task));
+    note(tally, which ? WHICH_19_14 : ORDER_19_14, !bad_wheel(task) && task->count > SLOTS_MAX);
+    note(tally, which ? WHICH_19_15 : ORDER_19_15,
+         !bad_wheel(task) && task->count <= SLOTS_MAX && some_slot_has(task, input, 0));
 }
 
 static void add_refused(struct tally *tally, const struct task *task, const struct input *input, uint32_t number)
@@ -211,11 +409,14 @@ static void add_refused(struct tally *tally, const struct task *task, const stru
     note(tally, ONE_BEYOND, number == 3 && last == records + 1);
     note(tally, SUM_WIDE, number == 3 && last > 65535 && (last & 65535) <= records);
     note(tally, ONES, number == 3 && task->id == UINT32_MAX && task->w == UINT32_MAX && task->count == 65535);
+    note(tally, ORDER_3_19, number == 3 && task->id > ID_MAX);
     note(tally, PAST_WHEEL, number == 4 && task->w == WHEEL_MAX + 1);
-    note(tally, COUNT_65, number == 14 && task->count == SLOTS_MAX + 1 && which_of_64(task, input) == 0);
+    note(tally, COUNT_513, number == 14 && task->count == SLOTS_MAX + 1 && which_of_512(task, input) == 0);
     note(tally, COUNT_WIDE, number == 14 && task->count == 65535);
     note(tally, ORDER_4_6, number == 4 && task->e == 0);
-    note(tally, ORDER_14_6, number >= 14 && task->e == 0);
+    note(tally, ORDER_14_6, number >= 14 && number <= 17 && task->e == 0);
+    note(tally, ORDER_18_6, number == 18 && task->e == 0);
+    note(tally, ORDER_19_6, number == 19 && task->e == 0);
     note(tally, PAST_NEED, number == 6 && task->e == NEED_MAX + 1);
     note(tally, PAST_PERIOD, number == 7 && task->h == PERIOD_MAX + 1);
     note(tally, PAST_DEADLINE, number == 8 && task->D == task->h + 1);
@@ -234,16 +435,19 @@ static void add_task(struct tally *tally, const struct input *input, const struc
     struct task task = task_of_bytes(input->task);
     if (number != 0) {
         add_refused(tally, &task, input, number);
-        note_place(tally, input->kind, input->task, input);
+        note_bad_slot(tally, input->kind, input->task, input);
+        if (number == 19)
+            add_bad_id(tally, &task, input, false);
         return;
     }
-    add_table(tally, &task, input);
+    struct board board = board_of(&task, input);
+    add_table(tally, &task, input, &board);
     add_accepted(tally, &task);
     if (input->kind == JUDGE) {
-        add_judged(tally, &task, input, &expected->verdict);
+        add_judged(tally, &task, input, &board, &expected->verdict);
     } else {
-        add_counted(tally, &task, input, expected->result);
-        add_point(tally, &task, input, expected);
+        add_counted(tally, &task, input, &board, expected->result);
+        add_point(tally, &task, input, &board, expected->supply);
     }
 }
 
@@ -275,7 +479,7 @@ static void add_granted(struct tally *tally, const struct input *input, const st
     note(tally, GRANT_SOME, granted > 0 && granted < free_slots);
     note(tally, GRANT_ALL, granted > 0 && granted == free_slots);
     note(tally, GRANT_PAST_TAKEN, granted_past_taken(expected->marks, input->marks_len));
-    note(tally, GRANT_64, input->marks_len == SLOTS_MAX);
+    note(tally, GRANT_64, input->marks_len == GRANT_SLOTS_MAX);
     note(tally, GRANT_16384, input->marks_len * input->v == WHEEL_MAX);
     note_edge(tally, input->marks_len * input->v, EDGE_GRANT, granted > 0);
 }
@@ -285,14 +489,14 @@ static void add_bad_grid(struct tally *tally, const struct input *input)
     size_t n = input->marks_len;
     bool small_v = input->v <= WHEEL_MAX;
     note(tally, MARKS_EMPTY, n == 0);
-    note(tally, MARKS_65, n == SLOTS_MAX + 1 && input->v > 0 && small_v && n * input->v <= WHEEL_MAX);
-    note(tally, MARK_2, n <= SLOTS_MAX && marks_of(input->marks, n, 2, 2) > 0);
-    note(tally, MARK_WIDE, n <= SLOTS_MAX && marks_of(input->marks, n, 3, 255) > 0);
-    note(tally, GRANT_NO_V, n > 0 && n <= SLOTS_MAX && input->v == 0);
-    note(tally, GRANT_LONG, n > 0 && n <= SLOTS_MAX && small_v && n * input->v > WHEEL_MAX &&
+    note(tally, MARKS_65, n == GRANT_SLOTS_MAX + 1 && input->v > 0 && small_v && n * input->v <= WHEEL_MAX);
+    note(tally, MARK_2, n <= GRANT_SLOTS_MAX && marks_of(input->marks, n, 2, 2) > 0);
+    note(tally, MARK_WIDE, n <= GRANT_SLOTS_MAX && marks_of(input->marks, n, 3, 255) > 0);
+    note(tally, GRANT_NO_V, n > 0 && n <= GRANT_SLOTS_MAX && input->v == 0);
+    note(tally, GRANT_LONG, n > 0 && n <= GRANT_SLOTS_MAX && small_v && n * input->v > WHEEL_MAX &&
                                 n * (input->v - 1) <= WHEEL_MAX);
-    note(tally, GRANT_WRAP, n > 0 && n <= SLOTS_MAX && !small_v && n * input->v <= WHEEL_MAX);
-    note(tally, WIDE_V, n > 0 && n <= SLOTS_MAX && wide(input->v, 1, WHEEL_MAX / n));
+    note(tally, GRANT_WRAP, n > 0 && n <= GRANT_SLOTS_MAX && !small_v && n * input->v <= WHEEL_MAX);
+    note(tally, WIDE_V, n > 0 && n <= GRANT_SLOTS_MAX && wide(input->v, 1, WHEEL_MAX / n));
 }
 
 static void add_grant(struct tally *tally, const struct input *input, const struct expected *expected, uint32_t number)
@@ -314,9 +518,10 @@ static void add_grant(struct tally *tally, const struct input *input, const stru
 
 /* ---- sites ---- */
 
-/* A record of a site and what its answer should say. */
+/* A record of a site, how many slots it owns, and what its answer should say. */
 struct sign {
     struct task task;
+    uint32_t owned; /* where it is accepted */
     uint32_t number, worst;
     uint32_t margin; /* in two's complement */
 };
@@ -324,8 +529,10 @@ struct sign {
 static struct sign sign_of(const struct input *input, const struct expected *expected, size_t i)
 {
     const uint8_t *answer = expected->reply + i * ANSWER_BYTES;
-    return (struct sign){task_of_bytes(input->task + i * TASK_BYTES), get_number(answer + 4, 2),
-                         get_number(answer + 8, 4), get_number(answer + MARGIN_AT, 4)};
+    const uint32_t number = get_number(answer + 4, 2);
+    struct task task = task_of_bytes(input->task + i * TASK_BYTES);
+    return (struct sign){task, number == 0 ? owned_slots(&task, input->slots) : 0, number, get_number(answer + 8, 4),
+                         get_number(answer + MARGIN_AT, 4)};
 }
 
 /* Arrays are taken in sizes; which of them would a wheel take? */
@@ -356,6 +563,35 @@ static void add_neighbours(struct tally *tally, const struct sign *one, const st
 static bool share_slots(const struct task *a, const struct task *b)
 {
     return a->count > 0 && b->count > 0 && a->first < b->first + b->count && b->first < a->first + a->count;
+}
+
+/* Two accepted tasks with ids of their own on one board. */
+static bool share_board(const struct sign *a, const struct sign *b)
+{
+    return a->number == 0 && b->number == 0 && a->task.id != b->task.id && a->task.w == b->task.w &&
+           a->task.first == b->task.first && a->task.count == b->task.count;
+}
+
+/* Record i beside those before it on its board. */
+static void add_boards(struct tally *tally, const struct sign *signs, size_t i)
+{
+    const struct sign *sign = &signs[i];
+    bool two = false, drops = false, three = false, none = false;
+    uint32_t met = 0; /* an id with slots on the board */
+    for (size_t j = 0; j < i; j++) {
+        if (!share_board(sign, &signs[j]))
+            continue;
+        bool both = sign->owned > 0 && signs[j].owned > 0;
+        three |= two && both && signs[j].task.id != met;
+        two |= both;
+        met = both ? signs[j].task.id : met;
+        drops |= both && sign->worst > 0 && signs[j].worst > 0;
+        none |= (sign->owned > 0) != (signs[j].owned > 0);
+    }
+    note(tally, SITE_BOARD, two);
+    note(tally, SITE_BOARD_DROPS, drops);
+    note(tally, SITE_BOARD_THREE, three);
+    note(tally, SITE_BOARD_NONE, none);
 }
 
 /* Record i beside each one before it. */
@@ -413,7 +649,7 @@ static void add_signs(struct tally *tally, const struct input *input, const stru
     size_t good = 0;
     for (size_t i = 0; i < n; i++) {
         tally->answers[signs[i].number]++;
-        note_place(tally, SITE, input->task + i * TASK_BYTES, input);
+        note_bad_slot(tally, SITE, input->task + i * TASK_BYTES, input);
         good += signs[i].number == 0;
         note_edge(tally, signs[i].task.w, site_edge_use_of(&signs[i].task), signs[i].worst > 0 && n > 1);
         note(tally, SITE_BETWEEN, i > 0 && i + 1 < n && signs[i - 1].number == 0 && signs[i].number != 0 &&
@@ -421,6 +657,7 @@ static void add_signs(struct tally *tally, const struct input *input, const stru
         if (i > 0)
             add_neighbours(tally, &signs[i - 1], &signs[i]);
         add_pairs(tally, input, signs, i);
+        add_boards(tally, signs, i);
     }
     note(tally, SITE_ONE, n == 1 && good == 1);
     note(tally, SITE_ALL_GOOD, n > 1 && good == n);
@@ -454,6 +691,7 @@ static void add_refused_site(struct tally *tally, const struct input *input, uin
     note(tally, SITE_33, number == 1 && input->task_len == 33);
     note(tally, SITE_63, number == 1 && input->task_len == 63);
     note(tally, SITE_SLOTS_ODD, number == 1 && whole && n > 0);
+    note(tally, SITE_SLOTS_EIGHT, number == 1 && whole && eights(input));
     note(tally, SITE_SLOTS_ODD_ALONE, number == 1 && whole && n == 0);
     note(tally, SITE_ORDER_1_2, number == 1 && input->reply_len < answers);
     note(tally, SITE_BYTE_SHORT, number == 2 && input->reply_len + 1 == answers);
@@ -463,37 +701,53 @@ static void add_refused_site(struct tally *tally, const struct input *input, uin
 
 /* ---- which slot ---- */
 
+/* Nothing outside the board may show, neither a clash with it nor a trouble of its own. */
 static void add_strangers(struct tally *tally, const struct task *task, const struct input *input)
 {
-    size_t first = task->first, behind = first + task->count;
-    uint32_t w = task->w;
-    bool before_fits = first > 0 && start_of(input, first - 1) < end_of(input, first - 1) &&
-                       end_of(input, first - 1) <= w;
-    note(tally, WHICH_BEFORE, before_fits && task->count > 0 && start_of(input, first) < end_of(input, first - 1));
-    note(tally, WHICH_BEHIND, behind < input->slots_len / SLOT_BYTES &&
-                                  (start_of(input, behind) >= end_of(input, behind) || end_of(input, behind) > w));
+    const size_t first = task->first, behind = first + task->count;
+    const uint32_t w = task->w;
+    if (first > 0) {
+        const uint32_t start = start_of(input, first - 1), end = end_of(input, first - 1);
+        const uint32_t spare = spare_of(input, first - 1);
+        note(tally, WHICH_BEFORE, start < end && end <= w && spare == 0 && task->count > 0 &&
+                                      start_of(input, first) < end);
+        note(tally, WHICH_SPARE_BEFORE, spare != 0);
+    }
+    if (behind < input->slots_len / SLOT_BYTES) {
+        note(tally, WHICH_BEHIND, start_of(input, behind) >= end_of(input, behind) || end_of(input, behind) > w);
+        note(tally, WHICH_SPARE_BEHIND, spare_of(input, behind) != 0);
+    }
 }
 
-static void add_good_table(struct tally *tally, const struct task *task, const struct input *input)
+/* A good table is good whatever its task's strips are like. */
+static void add_bad_strips(struct tally *tally, const struct task *task)
 {
     struct strips strips = strips_of_task(task);
-    uint32_t number = refusal_of_strips(&strips), last_end = 0;
-    bool touching = false;
-    for (size_t i = task->first; i < task->first + task->count; i++) {
-        touching |= i > task->first && start_of(input, i) == last_end;
-        last_end = end_of(input, i);
-    }
-    note(tally, WHICH_NONE, task->count == 0);
-    note(tally, WHICH_NULL, input->slots_len == 0 && input->null_when_empty);
-    note(tally, WHICH_64, task->count == SLOTS_MAX);
-    note(tally, WHICH_TOUCHING, touching);
-    note(tally, WHICH_AT_WHEEL, last_end == task->w);
-    note(tally, WHICH_LARGEST, last_end == WHEEL_MAX);
+    const uint32_t number = refusal_of_strips(&strips);
     note(tally, WHICH_BAD_NEED, number == 6);
     note(tally, WHICH_BAD_PERIOD, number == 7);
     note(tally, WHICH_BAD_DEADLINE, number == 8);
     note(tally, WHICH_BAD_STRIPS, number == 9);
     note(tally, WHICH_BAD_PAINTED, number == 10);
+}
+
+static void add_good_table(struct tally *tally, const struct task *task, const struct input *input)
+{
+    const size_t behind = task->first + task->count;
+    const uint32_t last_end = task->count > 0 ? end_of(input, behind - 1) : 0;
+    struct board board = board_of(task, input);
+    note(tally, WHICH_NONE, task->count == 0);
+    note(tally, WHICH_NULL, input->slots_len == 0 && input->null_when_empty);
+    note(tally, WHICH_64, task->count == GRANT_SLOTS_MAX);
+    note(tally, WHICH_65, task->count == GRANT_SLOTS_MAX + 1);
+    note(tally, WHICH_511, task->count == SLOTS_MAX - 1);
+    note(tally, WHICH_512, task->count == SLOTS_MAX);
+    note(tally, WHICH_SHARED, board.owned > 0 && board.others > 0);
+    note(tally, WHICH_FOREIGN, board.owned == 0 && board.others > 0);
+    note(tally, WHICH_TOUCHING, board.touching || board.touches_other);
+    note(tally, WHICH_AT_WHEEL, last_end == task->w);
+    note(tally, WHICH_LARGEST, last_end == WHEEL_MAX);
+    add_bad_strips(tally, task);
     add_strangers(tally, task, input);
 }
 
@@ -503,17 +757,10 @@ static void add_refused_lengths(struct tally *tally, const struct input *input)
     note(tally, WHICH_31, input->task_len == TASK_BYTES - 1);
     note(tally, WHICH_33, input->task_len == TASK_BYTES + 1);
     note(tally, WHICH_SLOTS_ODD, input->task_len == TASK_BYTES);
+    note(tally, WHICH_SLOTS_EIGHT, input->task_len == TASK_BYTES && eights(input));
 }
 
-static bool some_slot_is_empty(const struct task *task, const struct input *input)
-{
-    for (uint32_t place = 0; place < task->count; place++)
-        if (refusal_of_slot(task, input->slots, place) == 15)
-            return true;
-    return false;
-}
-
-/* Refusals 3, 4 and 14, which are about no single slot. */
+/* Refusals 3, 4 and 14, which are about no single slot, nor about the id. */
 static void add_refused_table(struct tally *tally, const struct task *task, const struct input *input, uint32_t number)
 {
     uint64_t records = input->slots_len / SLOT_BYTES, last = task->first + task->count;
@@ -521,18 +768,19 @@ static void add_refused_table(struct tally *tally, const struct task *task, cons
     note(tally, WHICH_NO_RECORDS, beyond && records == 0);
     note(tally, WHICH_ONE_BEYOND, beyond && last == records + 1);
     note(tally, WHICH_SUM_WIDE, beyond && last > 65535 && (last & 65535) <= records);
-    note(tally, WHICH_3_4, beyond && (task->w == 0 || task->w > WHEEL_MAX));
+    note(tally, WHICH_3_19, beyond && task->id > ID_MAX);
+    note(tally, WHICH_3_4, beyond && bad_wheel(task));
     note(tally, WHICH_3_14, beyond && many);
     note(tally, WHICH_W_0, wheel && task->w == 0);
     note(tally, WHICH_W_16385, wheel && task->w == WHEEL_MAX + 1);
     note(tally, WHICH_W_WIDE, wheel && task->w == UINT32_MAX);
     note(tally, WHICH_4_14, wheel && many);
-    note(tally, WHICH_4_15, wheel && some_slot_is_empty(task, input));
+    note(tally, WHICH_4_15, wheel && some_slot_has(task, input, 15));
     if (number != 14)
         return;
-    uint64_t rest = which_of_64(task, input);
-    note(tally, WHICH_65, task->count == SLOTS_MAX + 1 && rest == 0);
-    note(tally, WHICH_LOW_BYTE, task->count > 255 && task->count % 256 <= SLOTS_MAX);
+    uint64_t rest = which_of_512(task, input);
+    note(tally, WHICH_513, task->count == SLOTS_MAX + 1 && rest == 0);
+    note(tally, WHICH_LOW_BITS, task->count > 1023 && task->count % 1024 <= SLOTS_MAX);
     note(tally, WHICH_COUNT_WIDE, task->count == 65535);
     note(tally, WHICH_14_FIRST, rest != 0 && (uint32_t)rest == 0);
     note(tally, WHICH_14_LATER, (uint32_t)rest > 0);
@@ -552,6 +800,8 @@ static void add_later_slots(struct tally *tally, const struct task *task, const 
     note(tally, WHICH_LOWER_LATER, lower);
     note(tally, WHICH_SAME_LATER, same);
     note(tally, WHICH_HIGHER_LATER, higher);
+    note(tally, WHICH_18_15, number == 18 && place + 1 < task->count &&
+                                 refusal_of_slot(task, input->slots, place + 1) == 15);
 }
 
 static void add_bad_slot(struct tally *tally, const struct task *task, const struct input *input, uint32_t number,
@@ -560,7 +810,7 @@ static void add_bad_slot(struct tally *tally, const struct task *task, const str
     size_t record = task->first + place;
     uint64_t start = start_of(input, record), end = end_of(input, record);
     uint64_t previous_end = place > 0 ? end_of(input, record - 1) : 0;
-    bool past = end > task->w, early = start < previous_end;
+    bool past = end > task->w, early = start < previous_end, spare = spare_of(input, record) != 0;
     note(tally, WHICH_START_AT_END, number == 15 && start == end);
     note(tally, WHICH_START_OVER, number == 15 && start == end + 1);
     note(tally, WHICH_START_WIDE, number == 15 && start > INT32_MAX && !past);
@@ -570,8 +820,12 @@ static void add_bad_slot(struct tally *tally, const struct task *task, const str
     note(tally, WHICH_15_16, number == 15 && past);
     note(tally, WHICH_15_17, number == 15 && early);
     note(tally, WHICH_16_17, number == 16 && early);
+    note(tally, WHICH_15_18, number == 15 && spare);
+    note(tally, WHICH_16_18, number == 16 && spare);
+    note(tally, WHICH_17_18, number == 17 && spare);
     note(tally, WHICH_ONLY, task->count == 1);
-    note(tally, WHICH_64TH, place + 1 == SLOTS_MAX);
+    note(tally, WHICH_512TH, place + 1 == SLOTS_MAX);
+    note(tally, WHICH_PAST_64, place >= GRANT_SLOTS_MAX && place + 1 < task->count);
     note(tally, WHICH_INSIDE, task->first > 0);
 }
 
@@ -585,13 +839,104 @@ static void add_which(struct tally *tally, const struct input *input, uint64_t r
     struct task task = task_of_bytes(input->task);
     if (number == 0) {
         add_good_table(tally, &task, input);
-    } else if (number < ABOUT_SLOT) {
+    } else if (number == 19) {
+        add_bad_id(tally, &task, input, true);
+    } else if (!about_slot(number)) {
         add_refused_table(tally, &task, input, number);
     } else {
         add_bad_slot(tally, &task, input, number, place);
         add_later_slots(tally, &task, input, number, place);
-        note_place(tally, WHICH, input->task, input);
+        note_bad_slot(tally, WHICH, input->task, input);
     }
+}
+
+/* ---- pairs of boards ---- */
+
+/* The slots of a good board that are its task's, or those that aren't, in order. */
+struct part {
+    uint32_t n, place[SLOTS_MAX], owner[SLOTS_MAX], start[SLOTS_MAX], end[SLOTS_MAX];
+};
+
+static struct part part_of(const struct input *input, bool own)
+{
+    struct task task = task_of_bytes(input->task);
+    struct part part = {0};
+    for (uint32_t place = 0; place < task.count; place++) {
+        const size_t record = task.first + place;
+        if (owns(&task, input, record) != own)
+            continue;
+        part.place[part.n] = place;
+        part.owner[part.n] = owner_at(input->slots, record);
+        part.start[part.n] = start_of(input, record);
+        part.end[part.n++] = end_of(input, record);
+    }
+    return part;
+}
+
+static bool same_slots(const struct part *one, const struct part *other)
+{
+    return one->n == other->n && memcmp(one->start, other->start, sizeof one->start) == 0 &&
+           memcmp(one->end, other->end, sizeof one->end) == 0;
+}
+
+static int by_number(const void *one, const void *other)
+{
+    const uint32_t a = *(const uint32_t *)one, b = *(const uint32_t *)other;
+    return (a > b) - (a < b);
+}
+
+/* Each owner has as many slots in the one part as in the other. */
+static bool same_owners(const struct part *one, const struct part *other)
+{
+    struct part a = *one, b = *other;
+    qsort(a.owner, a.n, sizeof *a.owner, by_number);
+    qsort(b.owner, b.n, sizeof *b.owner, by_number);
+    return a.n == b.n && memcmp(a.owner, b.owner, sizeof a.owner) == 0;
+}
+
+bool is_same_for_owner(const struct input *one, const struct input *other)
+{
+    struct task task = task_of_bytes(one->task), twin = task_of_bytes(other->task);
+    if (which_of(&task, one) != 0 || which_of(&twin, other) != 0)
+        return false;
+    struct part own = part_of(one, true), twins = part_of(other, true);
+    return memcmp(one->task, other->task, FIRST_AT) == 0 && same_slots(&own, &twins);
+}
+
+/* How two boards differ that are the same for their owner. */
+static void add_boards_differ(struct tally *tally, const struct input *one, const struct input *other)
+{
+    struct task task = task_of_bytes(one->task), twin = task_of_bytes(other->task);
+    const struct part own = part_of(one, true), twins = part_of(other, true);
+    const struct part others = part_of(one, false), strangers = part_of(other, false);
+    const bool bare = own.n == 0, as_many = others.n == strangers.n;
+    note(tally, PAIR_NUMBER, !as_many);
+    note(tally, PAIR_ORDER, same_owners(&others, &strangers) &&
+                                memcmp(others.owner, strangers.owner, sizeof others.owner) != 0);
+    note(tally, PAIR_TICKS, as_many && !same_slots(&others, &strangers));
+    note(tally, PAIR_PLACE, memcmp(own.place, twins.place, sizeof own.place) != 0);
+    note(tally, PAIR_FIRST, task.first != twin.first);
+    note(tally, PAIR_COUNT, task.count != twin.count);
+    note(tally, PAIR_ALONE, !bare && (others.n == 0) != (strangers.n == 0));
+    note(tally, PAIR_NONE, bare && others.n > 0 && strangers.n > 0);
+    note(tally, PAIR_BARE, bare && (others.n == 0) != (strangers.n == 0));
+    note(tally, PAIR_MANY, own.n > GRANT_SLOTS_MAX && others.n > 0 && strangers.n > 0);
+}
+
+void tally_add_pair(struct tally *tally, const struct input *one, const struct input *other, const uint8_t *answer,
+                    uint32_t refused_at)
+{
+    struct task task = task_of_bytes(one->task), twin = task_of_bytes(other->task);
+    const uint32_t number = get_number(answer + 4, 2), worst = get_number(answer + 8, 4);
+    add_boards_differ(tally, one, other);
+    note(tally, PAIR_DROPS, number == 0 && worst > 0 && worst < task.k);
+    note(tally, PAIR_TELLS, refused_at == 0 && supply_of_board(&task, one) != supply_of_board(&twin, other));
+    note(tally, PAIR_6, number == 6);
+    note(tally, PAIR_7, number == 7);
+    note(tally, PAIR_8, number == 8);
+    note(tally, PAIR_9, number == 9);
+    note(tally, PAIR_10, number == 10);
+    note(tally, PAIR_11, refused_at == 11);
 }
 
 /* ---- all ---- */
@@ -657,34 +1002,35 @@ static unsigned print_numbers(const struct tally *tally)
     return never;
 }
 
-/* The first bad slot by its number and place. Nothing is before a task's first slot, so 17 isn't given there. */
-static unsigned print_places(const struct tally *tally)
+/* The first bad slot by number, place and owner. Nothing is before a board's first slot, so 17 isn't given there. */
+static unsigned print_bad_slots(const struct tally *tally)
 {
-    static const char *const names[SLOT_PLACES] = {"first", "a middle one", "last"};
+    static const char *const names[SLOT_KINDS] = {"first", "a middle one", "last", "the task's", "another's"};
     unsigned never = 0;
     printf("%-15s %10s %10s %10s %10s\n", "slot", "judge", "count", "in a site", "which slot");
-    for (uint32_t row = 0; row < SLOT_NUMBERS * SLOT_PLACES; row++) {
-        uint32_t number = row / SLOT_PLACES, place = row % SLOT_PLACES;
-        bool known = number + ABOUT_SLOT != 17 || place != FIRST_PLACE;
-        printf("%" PRIu32 " %-12s", number + ABOUT_SLOT, names[place]);
-        never += print_known(known, tally->places[JUDGE][number][place]);
-        never += print_known(known, tally->places[COUNT][number][place]);
-        never += print_known(known, tally->places[SITE][number][place]);
-        never += print_known(known, tally->places[WHICH][number][place]);
+    for (uint32_t row = 0; row < SLOT_NUMBERS * SLOT_KINDS; row++) {
+        uint32_t number = row / SLOT_KINDS, kind = row % SLOT_KINDS;
+        bool known = number + ABOUT_SLOT != 17 || kind != FIRST_PLACE;
+        printf("%" PRIu32 " %-12s", number + ABOUT_SLOT, names[kind]);
+        never += print_known(known, tally->bad_slots[JUDGE][number][kind]);
+        never += print_known(known, tally->bad_slots[COUNT][number][kind]);
+        never += print_known(known, tally->bad_slots[SITE][number][kind]);
+        never += print_known(known, tally->bad_slots[WHICH][number][kind]);
         printf("\n");
     }
     return never;
 }
 
 /*
- * Each wheel at an edge, with something dropped or granted: judged with few strips, and with 64 slots and many strips;
- * counted; granted; judged in a site, with k to 255 and above.
+ * Each wheel at an edge, with something dropped or granted: judged with few strips, and with many strips and 64 slots
+ * of the task's or more, or the most that have ticks between them; counted; granted; judged in a site, with k to 255
+ * and above.
  */
 static unsigned print_edges(const struct tally *tally)
 {
     unsigned never = 0;
-    printf("%-8s %10s %10s %10s %10s %10s %10s %10s\n", "wheel", "k to 4", "64, to 255", "64, k 256+", "count", "grant",
-           "site", "site, 256+");
+    printf("%-8s %10s %10s %10s %10s %10s %10s %10s %10s %10s\n", "wheel", "k to 4", "64, to 255", "64, k 256+",
+           "most, 255", "most, 256+", "count", "grant", "site", "site, 256+");
     for (size_t i = 0; i < WHEEL_EDGES; i++) {
         printf("%-8" PRIu32, wheel_edges[i]);
         for (enum edge_use use = EDGE_FEW; use < EDGE_USES; use++) {
@@ -701,7 +1047,7 @@ unsigned tally_print(const struct tally *tally)
 #define CLASS_TEXT(id, text) text,
     static const char *const texts[] = {CLASSES(CLASS_TEXT)};
 #undef CLASS_TEXT
-    unsigned never = print_numbers(tally) + print_places(tally) + print_edges(tally);
+    unsigned never = print_numbers(tally) + print_bad_slots(tally) + print_edges(tally);
     for (unsigned i = 0; i < CLASS_COUNT; i++) {
         printf("%10" PRIu64 "  %s%s\n", tally->met[i], texts[i], tally->met[i] == 0 ? "  NEVER MET" : "");
         never += tally->met[i] == 0;

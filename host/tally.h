@@ -4,11 +4,14 @@
 
 #include "inputs.h"
 
-enum { NUMBERS = 18 }; /* refusals 1 to 17, and 0; no call gives 5 */
+enum { NUMBERS = 20 }; /* refusals 1 to 19, and 0; no call gives 5 */
 
-/* Refusals 15 to 17 are about one slot, and it is the first bad one: a task's first, its last, or one between. */
-enum { ABOUT_SLOT = 15, SLOT_NUMBERS = 3 };
-enum slot_place { FIRST_PLACE, MIDDLE_PLACE, LAST_PLACE, SLOT_PLACES };
+/*
+ * Refusals 15 to 18 are about one slot, and it is the first bad one: a board's first, its last, or one between; and it
+ * is the task's own or another owner's.
+ */
+enum { ABOUT_SLOT = 15, SLOT_NUMBERS = 4 };
+enum slot_kind { FIRST_PLACE, MIDDLE_PLACE, LAST_PLACE, OWN_SLOT, OTHERS_SLOT, SLOT_KINDS };
 
 /* What should come out, by definition. */
 struct expected {
@@ -50,11 +53,30 @@ struct expected {
     X(LONG_REPLY, "judged: a reply one byte longer")                                                                   \
     X(LARGE_WHEEL, "judged: w above 8,192 and some strips drop")                                                       \
     X(MANY_STRIPS, "judged: k above 512 and some strips drop")                                                         \
-    X(NO_SLOTS, "accepted: no slots")                                                                                  \
+    X(SHARED_DROPS, "judged: some strips drop, not all, on a board with others' slots beside the task's")              \
+    X(SHARED_WORST, "judged: a strip at the worst offset would be painted if every slot were the task's")              \
+    X(SHARED_LEAST, "judged: the tick of the least margin would have more if every slot were the task's")              \
+    X(OWNED_65, "judged: more than 64 slots of the task's, and strips drop")                                           \
+    X(OWNED_512, "judged: 512 slots of the task's, and strips drop")                                                   \
+    X(NO_SLOTS, "accepted: no slot records")                                                                           \
     X(NULL_SLOTS, "accepted: NULL for slots")                                                                          \
-    X(TOUCHING, "accepted: touching slots")                                                                            \
-    X(FULL_WHEEL, "accepted: slots fill the wheel")                                                                    \
-    X(ALL_SLOTS, "accepted: 64 slots")                                                                                 \
+    X(TOUCHING, "accepted: touching slots of the task's")                                                              \
+    X(TOUCHING_OTHER, "accepted: a slot of the task's touches another owner's")                                        \
+    X(FULL_WHEEL, "accepted: the task's slots fill the wheel")                                                         \
+    X(FULL_BOARD, "accepted: the slots fill the wheel, the task's alone don't")                                        \
+    X(RECORDS_64, "accepted: 64 slot records")                                                                         \
+    X(RECORDS_65, "accepted: 65 slot records")                                                                         \
+    X(RECORDS_511, "accepted: 511 slot records")                                                                       \
+    X(RECORDS_512, "accepted: 512 slot records")                                                                       \
+    X(OWNER_ALONE, "accepted: several slots, all of them the task's")                                                  \
+    X(OWNER_NONE, "accepted: slots, none of them the task's")                                                          \
+    X(OWNER_BETWEEN, "accepted: another owner's slot between two of the task's")                                       \
+    X(OWNER_LOW, "accepted: another owner that differs from the id in its upper byte alone")                           \
+    X(OWNER_HIGH, "accepted: another owner that differs from the id in its lower byte alone")                          \
+    X(OWNER_0, "accepted: id 0, with slots of its own and others'")                                                    \
+    X(OWNER_65535, "accepted: id 65,535, with slots of its own and others'")                                           \
+    X(OUTSIDE_BEFORE, "accepted: the record before the board would fit, and its owner is the id")                      \
+    X(OUTSIDE_BEHIND, "accepted: the record behind the board would fit, and its owner is the id")                      \
     X(LONG_DEADLINE, "accepted: D above w")                                                                            \
     X(WHOLE_TURNS, "accepted: h a multiple of w")                                                                      \
     X(NEED_OVER_D, "accepted: e above D")                                                                              \
@@ -70,18 +92,34 @@ struct expected {
     X(TASK_EMPTY, "refused 1: a task of 0 bytes")                                                                      \
     X(TASK_31, "refused 1: a task of 31 bytes")                                                                        \
     X(TASK_33, "refused 1: a task of 33 bytes")                                                                        \
-    X(SLOTS_ODD, "refused 1: slots not a multiple of 8")                                                               \
+    X(SLOTS_ODD, "refused 1: slots not a multiple of 12")                                                              \
+    X(SLOTS_EIGHT, "refused 1: slots a multiple of 8, not of 12")                                                      \
     X(REPLY_EMPTY, "refused 2: a reply of 0 bytes")                                                                    \
     X(REPLY_SHORT, "refused 2: a reply one byte short")                                                                \
     X(REPLY_NO_MARGIN, "refused 2: a reply with room for all but the margin")                                          \
     X(ONE_BEYOND, "refused 3: first + count one over the end")                                                         \
     X(SUM_WIDE, "refused 3: first + count above 65,535 whose low 16 bits would do")                                    \
     X(ONES, "refused 3: a task of all ones")                                                                           \
+    X(ORDER_3_19, "refused 3 before 19: the id is bad as well")                                                        \
+    X(ID_65536, "refused 19: id 65,536")                                                                               \
+    X(ID_LOW, "refused 19: an id whose low 16 bits would do, and own a slot")                                          \
+    X(ID_WIDE, "refused 19: id 2^32 - 1")                                                                              \
+    X(ORDER_19_4, "refused 19 before 4: w is bad as well")                                                             \
+    X(ORDER_19_14, "refused 19 before 14: more than 512 slots as well")                                                \
+    X(ORDER_19_15, "refused 19 before 15 to 18: a slot is bad as well")                                                \
+    X(ORDER_19_6, "refused 19 before 6: e is bad as well")                                                             \
     X(PAST_WHEEL, "refused 4: w 16,385")                                                                               \
-    X(COUNT_65, "refused 14: 65 slots, of which 64 would do")                                                          \
+    X(COUNT_513, "refused 14: 513 slots, of which 512 would do")                                                       \
     X(COUNT_WIDE, "refused 14: count 65,535 with that many records")                                                   \
     X(ORDER_4_6, "refused 4 before 6: w and e are both bad")                                                           \
     X(ORDER_14_6, "refused 14 to 17 before 6: the slots and e are both bad")                                           \
+    X(ORDER_18_6, "refused 18 before 6: a spare byte and e are both bad")                                              \
+    X(EARLY_OWN, "refused 17: a slot of the task's against another owner's, though not against the task's before it")  \
+    X(EARLY_OTHER, "refused 17: another owner's slot against one of the task's")                                       \
+    X(EARLY_THIRD, "refused 17: another owner's slot against a third owner's")                                         \
+    X(SPARE_FIRST, "refused 18: the first spare byte alone")                                                           \
+    X(SPARE_SECOND, "refused 18: the second spare byte alone")                                                         \
+    X(BAD_OTHERS, "refused 15 to 18: every slot of the task's would do")                                               \
     X(PAST_NEED, "refused 6: e 1,000,001")                                                                             \
     X(PAST_PERIOD, "refused 7: h 1,000,001")                                                                           \
     X(PAST_DEADLINE, "refused 8: D one above h")                                                                       \
@@ -94,6 +132,9 @@ struct expected {
     X(COUNTED_OVER, "counted: whole turns of strips and some over, some drop, not all")                                \
     X(COUNTED_ODD, "counted: drops from an odd half tick")                                                             \
     X(LAST_OFFSET, "counted: offset 2w - 1")                                                                           \
+    X(SHARED_COUNT, "counted: some strips drop, not all, on a board with others' slots beside the task's")             \
+    X(COUNTED_65, "counted: more than 64 slots of the task's, and strips drop")                                        \
+    X(COUNTED_512, "counted: 512 slots of the task's, and strips drop")                                                \
     X(MARGIN_BELOW_EVEN, "margin: below zero at a whole tick")                                                         \
     X(MARGIN_ZERO_EVEN, "margin: zero at a whole tick")                                                                \
     X(MARGIN_ABOVE_EVEN, "margin: above zero at a whole tick")                                                         \
@@ -110,6 +151,7 @@ struct expected {
     X(SUPPLIED_FULL, "supply: 2D")                                                                                     \
     X(SUPPLIED_HALF, "supply: an odd number of half ticks")                                                            \
     X(SUPPLIED_WIDE, "supply: above 65,535 half ticks")                                                                \
+    X(SHARED_SUPPLY, "supply: it would be more if every slot were the task's")                                         \
     X(PAST_OFFSET, "refused 11: offset 2w")                                                                            \
     X(WIDE_OFFSET, "refused 11: an offset above 2^32 whose low half would do")                                         \
     X(GRANT_NONE, "granted: no slots")                                                                                 \
@@ -153,6 +195,10 @@ struct expected {
     X(SITE_SHARED, "site: two accepted tasks share slots")                                                             \
     X(SITE_TWICE, "site: an accepted record twice")                                                                    \
     X(SITE_BARE, "site: an accepted record and no slot records")                                                       \
+    X(SITE_BOARD, "site: two accepted tasks on one board, each with slots of its own there")                           \
+    X(SITE_BOARD_DROPS, "site: the same, and strips drop in both")                                                     \
+    X(SITE_BOARD_THREE, "site: three accepted tasks on one board, each with slots of its own there")                   \
+    X(SITE_BOARD_NONE, "site: an accepted task without slots of its own on the board of one that has some")            \
     X(SITE_MARGINS, "site: least margins below zero, zero and above zero")                                             \
     X(SITE_MARGIN_NEXT, "site: a refused record right behind a least margin other than zero")                          \
     X(SITE_LONG_REPLY, "site: a reply one byte longer")                                                                \
@@ -160,7 +206,8 @@ struct expected {
     X(SITE_31, "site refused 1: tasks of 31 bytes")                                                                    \
     X(SITE_33, "site refused 1: tasks of 33 bytes")                                                                    \
     X(SITE_63, "site refused 1: tasks of 63 bytes")                                                                    \
-    X(SITE_SLOTS_ODD, "site refused 1: slots not a multiple of 8")                                                     \
+    X(SITE_SLOTS_ODD, "site refused 1: slots not a multiple of 12")                                                    \
+    X(SITE_SLOTS_EIGHT, "site refused 1: slots a multiple of 8, not of 12")                                            \
     X(SITE_SLOTS_ODD_ALONE, "site refused 1: the same with no records")                                                \
     X(SITE_ORDER_1_2, "site refused 1 before 2: no room for the whole records, either")                                \
     X(SITE_BYTE_SHORT, "site refused 2: a reply one byte short")                                                       \
@@ -169,11 +216,18 @@ struct expected {
     X(WHICH_NONE, "which slot, good: no slots")                                                                        \
     X(WHICH_NULL, "which slot, good: NULL for slots")                                                                  \
     X(WHICH_64, "which slot, good: 64 slots")                                                                          \
+    X(WHICH_65, "which slot, good: 65 slots")                                                                          \
+    X(WHICH_511, "which slot, good: 511 slots")                                                                        \
+    X(WHICH_512, "which slot, good: 512 slots")                                                                        \
+    X(WHICH_SHARED, "which slot, good: slots of the task's and of others")                                             \
+    X(WHICH_FOREIGN, "which slot, good: slots, none of them the task's")                                               \
     X(WHICH_TOUCHING, "which slot, good: a start at the end before it")                                                \
     X(WHICH_AT_WHEEL, "which slot, good: an end at w")                                                                 \
     X(WHICH_LARGEST, "which slot, good: an end at w 16,384")                                                           \
-    X(WHICH_BEFORE, "which slot, good: the record before the task's first would fit and clash with it")                \
-    X(WHICH_BEHIND, "which slot, good: a bad record behind the task's last")                                           \
+    X(WHICH_BEFORE, "which slot, good: the record before the board would fit and clash with its first")                \
+    X(WHICH_BEHIND, "which slot, good: a bad record behind the board")                                                 \
+    X(WHICH_SPARE_BEFORE, "which slot, good: a spare byte of the record before the board isn't zero")                  \
+    X(WHICH_SPARE_BEHIND, "which slot, good: a spare byte of the record behind the board isn't zero")                  \
     X(WHICH_BAD_NEED, "which slot, good: e is bad")                                                                    \
     X(WHICH_BAD_PERIOD, "which slot, good: h is bad")                                                                  \
     X(WHICH_BAD_DEADLINE, "which slot, good: D is bad")                                                                \
@@ -182,19 +236,27 @@ struct expected {
     X(WHICH_EMPTY, "which slot refused 1: a task of 0 bytes")                                                          \
     X(WHICH_31, "which slot refused 1: a task of 31 bytes")                                                            \
     X(WHICH_33, "which slot refused 1: a task of 33 bytes")                                                            \
-    X(WHICH_SLOTS_ODD, "which slot refused 1: slots not a multiple of 8")                                              \
+    X(WHICH_SLOTS_ODD, "which slot refused 1: slots not a multiple of 12")                                             \
+    X(WHICH_SLOTS_EIGHT, "which slot refused 1: slots a multiple of 8, not of 12")                                     \
     X(WHICH_NO_RECORDS, "which slot refused 3: no slot records at all")                                                \
     X(WHICH_ONE_BEYOND, "which slot refused 3: first + count one over the end")                                        \
     X(WHICH_SUM_WIDE, "which slot refused 3: first + count above 65,535 whose low 16 bits would do")                   \
+    X(WHICH_3_19, "which slot refused 3 before 19: the id is bad as well")                                             \
     X(WHICH_3_4, "which slot refused 3 before 4: w is bad as well")                                                    \
-    X(WHICH_3_14, "which slot refused 3 before 14: more than 64 slots as well")                                        \
+    X(WHICH_3_14, "which slot refused 3 before 14: more than 512 slots as well")                                       \
+    X(WHICH_ID_65536, "which slot refused 19: id 65,536")                                                              \
+    X(WHICH_ID_LOW, "which slot refused 19: an id whose low 16 bits would do, and own a slot")                         \
+    X(WHICH_ID_WIDE, "which slot refused 19: id 2^32 - 1")                                                             \
+    X(WHICH_19_4, "which slot refused 19 before 4: w is bad as well")                                                  \
+    X(WHICH_19_14, "which slot refused 19 before 14: more than 512 slots as well")                                     \
+    X(WHICH_19_15, "which slot refused 19 before 15 to 18: a slot is bad as well")                                     \
     X(WHICH_W_0, "which slot refused 4: w 0")                                                                          \
     X(WHICH_W_16385, "which slot refused 4: w 16,385")                                                                 \
     X(WHICH_W_WIDE, "which slot refused 4: w 2^32 - 1")                                                                \
-    X(WHICH_4_14, "which slot refused 4 before 14: more than 64 slots as well")                                        \
+    X(WHICH_4_14, "which slot refused 4 before 14: more than 512 slots as well")                                       \
     X(WHICH_4_15, "which slot refused 4 before 15: a start isn't below its end, either")                               \
-    X(WHICH_65, "which slot refused 14: 65 slots, of which 64 would do")                                               \
-    X(WHICH_LOW_BYTE, "which slot refused 14: a count above 255 whose low byte would do")                              \
+    X(WHICH_513, "which slot refused 14: 513 slots, of which 512 would do")                                            \
+    X(WHICH_LOW_BITS, "which slot refused 14: a count above 1,023 whose low ten bits would do")                        \
     X(WHICH_COUNT_WIDE, "which slot refused 14: count 65,535 with that many records")                                  \
     X(WHICH_14_FIRST, "which slot refused 14: the first slot is bad as well")                                          \
     X(WHICH_14_LATER, "which slot refused 14: a later slot is bad as well")                                            \
@@ -207,12 +269,35 @@ struct expected {
     X(WHICH_15_16, "which slot refused 15 before 16: both of one slot")                                                \
     X(WHICH_15_17, "which slot refused 15 before 17: both of one slot")                                                \
     X(WHICH_16_17, "which slot refused 16 before 17: both of one slot")                                                \
-    X(WHICH_ONLY, "which slot refused 15 to 17: the task's only slot")                                                 \
-    X(WHICH_64TH, "which slot refused 15 to 17: the last of 64 slots")                                                 \
-    X(WHICH_INSIDE, "which slot refused 15 to 17: first above 0")                                                      \
-    X(WHICH_LOWER_LATER, "which slot refused 16 or 17: a later slot has a lower number")                               \
-    X(WHICH_HIGHER_LATER, "which slot refused 15 or 16: a later slot has a higher number")                             \
-    X(WHICH_SAME_LATER, "which slot refused 15 to 17: a later slot has the same number")
+    X(WHICH_15_18, "which slot refused 15 before 18: both of one slot")                                                \
+    X(WHICH_16_18, "which slot refused 16 before 18: both of one slot")                                                \
+    X(WHICH_17_18, "which slot refused 17 before 18: both of one slot")                                                \
+    X(WHICH_ONLY, "which slot refused 15 to 18: the board's only slot")                                                \
+    X(WHICH_512TH, "which slot refused 15 to 18: the last of 512 slots")                                               \
+    X(WHICH_PAST_64, "which slot refused 15 to 18: a slot behind the 64th, not the last")                              \
+    X(WHICH_INSIDE, "which slot refused 15 to 18: first above 0")                                                      \
+    X(WHICH_LOWER_LATER, "which slot refused 16 to 18: a later slot has a lower number")                               \
+    X(WHICH_HIGHER_LATER, "which slot refused 15 to 17: a later slot has a higher number")                             \
+    X(WHICH_SAME_LATER, "which slot refused 15 to 18: a later slot has the same number")                               \
+    X(WHICH_18_15, "which slot refused 18: the next slot has 15")                                                      \
+    X(PAIR_NUMBER, "pair: others have more slots on one board than on the other")                                      \
+    X(PAIR_ORDER, "pair: the same other owners as often on both boards, in another order")                             \
+    X(PAIR_TICKS, "pair: others have as many slots on both boards, at other ticks")                                    \
+    X(PAIR_PLACE, "pair: the task's slots at other places of their boards")                                            \
+    X(PAIR_FIRST, "pair: first differs")                                                                               \
+    X(PAIR_COUNT, "pair: count differs")                                                                               \
+    X(PAIR_ALONE, "pair: one board is the task's alone, and has slots")                                                \
+    X(PAIR_NONE, "pair: slots on both boards, none of them the task's")                                                \
+    X(PAIR_BARE, "pair: no slot at all on one board, others' on the other")                                            \
+    X(PAIR_MANY, "pair: more than 64 slots of the task's, and others'")                                                \
+    X(PAIR_DROPS, "pair: some strips drop, not all")                                                                   \
+    X(PAIR_TELLS, "pair: the two would have other supplies at the offset if every slot were the task's")               \
+    X(PAIR_6, "pair refused 6 alike")                                                                                  \
+    X(PAIR_7, "pair refused 7 alike")                                                                                  \
+    X(PAIR_8, "pair refused 8 alike")                                                                                  \
+    X(PAIR_9, "pair refused 9 alike")                                                                                  \
+    X(PAIR_10, "pair refused 10 alike")                                                                                \
+    X(PAIR_11, "pair refused 11 alike")
 
 #define CLASS_ID(id, text) id,
 enum input_class { CLASSES(CLASS_ID) CLASS_COUNT };
@@ -221,13 +306,18 @@ enum input_class { CLASSES(CLASS_ID) CLASS_COUNT };
 struct tally {
     uint64_t numbers[KINDS][NUMBERS];
     uint64_t answers[NUMBERS]; /* the numbers in the answers of sites */
-    uint64_t places[KINDS][SLOT_NUMBERS][SLOT_PLACES]; /* a site's records count as its own */
+    uint64_t bad_slots[KINDS][SLOT_NUMBERS][SLOT_KINDS]; /* by place and by owner; a site's records count as its own */
     uint64_t edges[WHEEL_EDGES][EDGE_USES];
     uint64_t met[CLASS_COUNT];
 };
 
 /* Notes an input and what should come out of it. */
 void tally_add(struct tally *tally, const struct input *input, const struct expected *expected);
+/* Whether two records differ in first and count alone, and their boards are good, with the same slots for their id. */
+bool is_same_for_owner(const struct input *one, const struct input *other);
+/* Notes two boards that should give the same: what judging should write, and the refusal at the offset. */
+void tally_add_pair(struct tally *tally, const struct input *one, const struct input *other, const uint8_t *answer,
+                    uint32_t refused_at);
 /* Prints all counts; gives how many classes were never met, or can't be met and were. */
 unsigned tally_print(const struct tally *tally);
 

@@ -4,24 +4,25 @@
  * This header is the authority on the C interface: what isn't here isn't
  * published, and what is here holds for every call.
  *
- * A processor turns a wheel of w ticks, and a task owns slots of it. A strip
- * arrives every h ticks and needs e ticks of slot time within D ticks of its
- * arrival; with less it is dropped. The judge answers, exactly and for every
- * offset of the first strip, fractions of a tick included:
+ * A processor turns a wheel of w ticks. Its slots stand in one table for the
+ * whole board, each with its owner, and a task has the slots whose owner is its
+ * id. A strip arrives every h ticks and needs e ticks of the task's slot time
+ * within D ticks of its arrival; with less it is dropped. The judge answers,
+ * exactly and for every offset of the first strip, fractions of a tick included:
  *
  *   fiddlequill_judge        how many of k strips drop at worst, from which
  *                            offset, whether at least m of k are always
  *                            painted (firm), and how near it came (the least
  *                            margin)
  *   fiddlequill_site         the same for every task of a site, in one call
- *   fiddlequill_which_slot   which slot of a task is bad, and why
+ *   fiddlequill_which_slot   which slot of a task's board is bad, and why
  *   fiddlequill_count        how many of k strips drop from one given offset
  *   fiddlequill_supply       the slot time that a strip at one given offset gets
  *   fiddlequill_margin       that time minus the strip's need, signed
  *   fiddlequill_grant        how many free slots, taken in number order, make
  *                            a task firm; it marks them
  *
- * All seven calls fail in one way: they refuse with a number from 1 to 17 and
+ * All seven calls fail in one way: they refuse with a number from 1 to 19 and
  * 0 stands for success. Every input gets an answer or a refusal; no content of
  * a buffer is undefined behaviour. What the caller must provide is memory: each
  * pointer has as many readable (reply, marks: writable) bytes as its length
@@ -53,7 +54,8 @@ extern "C" {
 /* ---- limits: each one is the largest value that is accepted ---- */
 
 #define FIDDLEQUILL_WHEEL_MAX 16384u      /* w, and N * v in a grant; in ticks */
-#define FIDDLEQUILL_SLOTS_MAX 64u         /* slot count of a task */
+#define FIDDLEQUILL_SLOTS_MAX 512u        /* slot records of a task's board, whoever owns them */
+#define FIDDLEQUILL_ID_MAX 65535u         /* id of a task, and owner of a slot */
 #define FIDDLEQUILL_NEED_MAX 1000000u     /* e, in ticks */
 #define FIDDLEQUILL_PERIOD_MAX 1000000u   /* h, in ticks; D is at most h */
 #define FIDDLEQUILL_STRIPS_MAX 1024u      /* k; m is at most k */
@@ -64,7 +66,7 @@ extern "C" {
 /* ---- record sizes, in bytes ---- */
 
 #define FIDDLEQUILL_TASK_BYTES 32u
-#define FIDDLEQUILL_SLOT_BYTES 8u
+#define FIDDLEQUILL_SLOT_BYTES 12u
 #define FIDDLEQUILL_ANSWER_BYTES 20u
 
 /* ---- refusals ---- */
@@ -85,10 +87,12 @@ enum fiddlequill_refusal {
     FIDDLEQUILL_BEYOND_WHEEL = 11,    /* the offset isn't below 2w half ticks */
     FIDDLEQUILL_BAD_GRANT = 12,       /* N, v, N * v or a mark is bad (see fiddlequill_grant) */
     FIDDLEQUILL_NEVER_FIRM = 13,      /* no set of the free slots makes the task firm */
-    FIDDLEQUILL_MANY_SLOTS = 14,      /* more than 64 slots */
+    FIDDLEQUILL_MANY_SLOTS = 14,      /* more than 512 slot records */
     FIDDLEQUILL_EMPTY_SLOT = 15,      /* a slot's start isn't below its end */
     FIDDLEQUILL_SLOT_PAST_WHEEL = 16, /* a slot's end is above w */
-    FIDDLEQUILL_EARLY_SLOT = 17       /* a slot's start is below the end of the task's slot before it */
+    FIDDLEQUILL_EARLY_SLOT = 17,      /* a slot's start is below the end of the slot before it, whoever owns that */
+    FIDDLEQUILL_SPARE_USED = 18,      /* a slot's spare bytes aren't zero */
+    FIDDLEQUILL_BAD_ID = 19           /* the task's id isn't from 0 to 65,535 */
 };
 
 /* ---- records: no header, little endian, no padding, unsigned but for the margin ---- */
@@ -96,23 +100,33 @@ enum fiddlequill_refusal {
 /*
  * Task record, 32 bytes
  *   offset  bytes  field
- *        0      4  id      any number; it comes back in the answer
+ *        0      4  id      owner of the task's slots, 0 to 65,535; it comes
+ *                          back in the answer
  *        4      4  w       ticks in one turn of the wheel, 1 to 16,384
  *        8      4  e       need of a strip in ticks, 1 to 1,000,000; may exceed D
  *       12      4  D       deadline in ticks after the arrival, 1 to h; may exceed w
  *       16      4  h       ticks from one arrival to the next, 1 to 1,000,000
  *       20      4  m       strips to be painted out of k, 0 to k
  *       24      4  k       strips looked at, 1 to 1,024
- *       28      2  first   the task's first slot record, counted from 0
- *       30      2  count   how many slot records are the task's, 0 to 64
+ *       28      2  first   the first slot record of the task's board, counted
+ *                          from 0
+ *       30      2  count   how many slot records the board has, 0 to 512
  *
- * Slot record, 8 bytes
+ * Slot record, 12 bytes
  *        0      4  start   first tick of the slot
  *        4      4  end     tick after its last one
- *   A slot fits when start < end, end <= w, and start is not below the end of
- *   the slot before it in the same task. Slots may touch, and a task without
- *   slots is a good one. Records outside first .. first + count - 1 aren't
- *   looked at.
+ *        8      2  owner   id of the task that has the slot
+ *       10      2          spare: zero
+ *   A slot fits when start < end, end <= w, start is not below the end of the
+ *   slot record before it on the same board, and the spare bytes are zero. So a
+ *   board's slots stand in the order of time, whoever owns them. Slots may
+ *   touch, and a task without slots is a good one. Every record of the board
+ *   must fit: a task is refused for another owner's bad slot, too. Records
+ *   outside first .. first + count - 1 aren't looked at.
+ *   A task gets the ticks of its own slots and of no other. Two good boards with
+ *   the same wheel and the same slots for a task's id give that task the same
+ *   results in every call, byte for byte, whatever slots others have there and
+ *   wherever first and count point.
  *
  * Answer record, 20 bytes
  *        0      4  id      as in the task
@@ -143,14 +157,14 @@ enum fiddlequill_refusal {
  *
  * Refusals in checking order, and what each writes:
  *   1, 2                       nothing
- *   3, 4, 14, then slot by slot 15, 16, 17, then 6, 7, 8, 9, 10
+ *   3, 19, 4, 14, then slot by slot 15, 16, 17, 18, then 6, 7, 8, 9, 10
  *                              reply[0..19]: id, the number, zeros
  *   0                          reply[0..19]: the whole answer
  * Never written: reply[20] and beyond, task, slots.
  *
- * Success is certain when task_len is 32, slots_len a multiple of 8, reply_len
- * at least 20, first + count within the slot records, every slot fits, and each
- * field is in the range given at the task record.
+ * Success is certain when task_len is 32, slots_len a multiple of 12, reply_len
+ * at least 20, first + count within the slot records, every slot of the board
+ * fits, and each field is in the range given at the task record.
  */
 FIDDLEQUILL_CHECK
 uint32_t fiddlequill_judge(const uint8_t *task, size_t task_len,
@@ -167,15 +181,15 @@ uint32_t fiddlequill_judge(const uint8_t *task, size_t task_len,
  *   reply, reply_len   room for as many answer records; more room is fine
  *
  * Refusals in checking order, and what each writes:
- *   1   tasks_len isn't a multiple of 32, or slots_len isn't one of 8 (looked at
- *       also where there are no tasks): nothing
+ *   1   tasks_len isn't a multiple of 32, or slots_len isn't one of 12 (looked
+ *       at also where there are no tasks): nothing
  *   2   reply_len is below 20 bytes for each task: nothing
  *   0   reply[20 * i .. 20 * i + 19] for each task i, counted from 0: exactly
  *       the bytes that fiddlequill_judge of that record alone would write
  * Never written: the reply past the last answer, tasks, slots.
  *
  * Success is certain when tasks_len is a multiple of 32, slots_len a multiple
- * of 8, and reply_len at least 20 bytes for each 32 of tasks_len, whatever the
+ * of 12, and reply_len at least 20 bytes for each 32 of tasks_len, whatever the
  * records hold.
  *
  * For a site of up to 100 signs:
@@ -194,24 +208,25 @@ uint32_t fiddlequill_site(const uint8_t *tasks, size_t tasks_len,
                           uint8_t *reply, size_t reply_len);
 
 /*
- * Says which slot of a task is bad, and why. The task's other numbers (e, D, h,
- * m and k) aren't looked at. Gives the refusal number and a place, packed in
- * one number: take it apart with fiddlequill_number and fiddlequill_value.
+ * Says which slot of a task's board is bad, whoever owns it, and why. The task's
+ * other numbers (e, D, h, m and k) aren't looked at. Gives the refusal number and
+ * a place, packed in one number: take it apart with fiddlequill_number and
+ * fiddlequill_value.
  *
  *   task, task_len     one task record
  *   slots, slots_len   the slot records that first and count point into
  *
  * Refusals in checking order, and the place beside each:
- *   1, 3, 4, 14                   0
- *   slot by slot 15, 16, 17       the first bad slot's, counted from 0 at the
- *                                 task's first: it is slot record first + place
- *   0                             0: the table is good
+ *   1, 3, 19, 4, 14               0
+ *   slot by slot 15, 16, 17, 18   the first bad slot's, counted from 0 at the
+ *                                 board's first: it is slot record first + place
+ *   0                             0: the board is good
  * The number tells whether a place is meant (fiddlequill_about_slot): only
- * beside 15, 16 and 17 is place 0 the task's first slot.
+ * beside 15 to 18 is place 0 the board's first slot.
  * Never written: anything.
  *
  * Judging or counting the same task and slots gives the same number whenever it
- * gives 1, 3, 4 or 14 to 17, and gives none of these when this call gives 0
+ * gives 1, 3, 4 or 14 to 19, and gives none of these when this call gives 0
  * (judging gives 2 first when the reply is too short).
  *
  * To tell a supplier:
@@ -220,10 +235,10 @@ uint32_t fiddlequill_site(const uint8_t *tasks, size_t tasks_len,
  *                                            slots, slots_len);
  *   uint32_t number = fiddlequill_number(result);
  *   if (fiddlequill_about_slot(number))
- *       printf("slot %" PRIu32 " of the task: %s\n", fiddlequill_value(result),
+ *       printf("slot %" PRIu32 " of the board: %s\n", fiddlequill_value(result),
  *              fiddlequill_meaning(number));
  *   else if (number != FIDDLEQUILL_OK)
- *       printf("the table: %s\n", fiddlequill_meaning(number));
+ *       printf("the board: %s\n", fiddlequill_meaning(number));
  */
 FIDDLEQUILL_CHECK
 uint64_t fiddlequill_which_slot(const uint8_t *task, size_t task_len,
@@ -234,9 +249,10 @@ uint64_t fiddlequill_which_slot(const uint8_t *task, size_t task_len,
  * ticks. Gives the refusal number and the count, 0 to k, packed in one number:
  * take it apart with fiddlequill_number and fiddlequill_value.
  *
- * Refusals in checking order: 1, 3, 4, 14, then slot by slot 15, 16, 17, then 6,
- * 7, 8, 9, 10, 11; each comes with count 0. (m plays no part in the count, but a
- * bad one is refused all the same.) All 64 bits of the offset are looked at.
+ * Refusals in checking order: 1, 3, 19, 4, 14, then slot by slot 15, 16, 17, 18,
+ * then 6, 7, 8, 9, 10, 11; each comes with count 0. (m plays no part in the
+ * count, but a bad one is refused all the same.) All 64 bits of the offset are
+ * looked at.
  * Never written: anything.
  *
  * Success is certain when judging the same task and slots with a reply of 20
@@ -334,10 +350,10 @@ static inline int32_t fiddlequill_signed(uint32_t bits)
     return bits <= 0x7fffffffu ? (int32_t)bits : -(int32_t)(0xffffffffu - bits) - 1;
 }
 
-/* Whether a refusal is about one slot: 1 for 15 to 17, else 0. */
+/* Whether a refusal is about one slot: 1 for 15 to 18, else 0. */
 static inline int fiddlequill_about_slot(uint32_t number)
 {
-    return number >= FIDDLEQUILL_EMPTY_SLOT && number <= FIDDLEQUILL_EARLY_SLOT;
+    return number >= FIDDLEQUILL_EMPTY_SLOT && number <= FIDDLEQUILL_SPARE_USED;
 }
 
 /* One line on a refusal number, for people. Never NULL. */
@@ -347,7 +363,7 @@ static inline const char *fiddlequill_meaning(uint32_t number)
     case FIDDLEQUILL_OK:
         return "not refused";
     case FIDDLEQUILL_BAD_LENGTH:
-        return "the task isn't 32 bytes long (a site: a multiple of 32), or the slots aren't a multiple of 8 bytes";
+        return "the task isn't 32 bytes long (a site: a multiple of 32), or the slots aren't a multiple of 12 bytes";
     case FIDDLEQUILL_SHORT_REPLY:
         return "the reply buffer is shorter than 20 bytes for each task";
     case FIDDLEQUILL_BEYOND_SLOTS:
@@ -371,13 +387,17 @@ static inline const char *fiddlequill_meaning(uint32_t number)
     case FIDDLEQUILL_NEVER_FIRM:
         return "no choice of the free slots makes the task firm";
     case FIDDLEQUILL_MANY_SLOTS:
-        return "the task has more than 64 slots";
+        return "the board has more than 512 slot records";
     case FIDDLEQUILL_EMPTY_SLOT:
         return "a slot whose start isn't below its end";
     case FIDDLEQUILL_SLOT_PAST_WHEEL:
         return "a slot whose end is above the wheel w";
     case FIDDLEQUILL_EARLY_SLOT:
         return "a slot whose start is below the end of the slot before it";
+    case FIDDLEQUILL_SPARE_USED:
+        return "a slot whose two spare bytes aren't zero";
+    case FIDDLEQUILL_BAD_ID:
+        return "the id isn't from 0 to 65,535";
     default:
         return "not a refusal number";
     }

@@ -42,10 +42,31 @@ fn four(x: u32) -> [u8; 4] {
     [byte(x, 1), byte(x, 256), byte(x, 65536), byte(x, 16777216)]
 }
 
-pub fn slot(start: u32, end: u32) -> [u8; Slot::BYTES] {
+// A slot record's numbers, in its order.
+pub fn record(start: u32, end: u32, owner: u32, spare: u32) -> [u8; Slot::BYTES] {
     let s = four(start);
     let e = four(end);
-    [s[0], s[1], s[2], s[3], e[0], e[1], e[2], e[3]]
+    let o = four(owner);
+    let p = four(spare);
+    [
+        s[0],
+        s[1],
+        s[2],
+        s[3],
+        e[0],
+        e[1],
+        e[2],
+        e[3],
+        o[0],
+        o[1],
+        p[0],
+        p[1],
+    ]
+}
+
+// A slot of T's: its owner is T's id.
+pub fn slot(start: u32, end: u32) -> [u8; Slot::BYTES] {
+    record(start, end, 2, 0)
 }
 
 pub fn two_slots(a: [u8; Slot::BYTES], b: [u8; Slot::BYTES]) -> [u8; 2 * Slot::BYTES] {
@@ -58,6 +79,10 @@ pub fn two_slots(a: [u8; Slot::BYTES], b: [u8; Slot::BYTES]) -> [u8; 2 * Slot::B
         a[5],
         a[6],
         a[7],
+        a[8],
+        a[9],
+        a[10],
+        a[11],
         b[0],
         b[1],
         b[2],
@@ -66,6 +91,10 @@ pub fn two_slots(a: [u8; Slot::BYTES], b: [u8; Slot::BYTES]) -> [u8; 2 * Slot::B
         b[5],
         b[6],
         b[7],
+        b[8],
+        b[9],
+        b[10],
+        b[11],
     ]
 }
 

@@ -1,5 +1,6 @@
 // The cases of docs/RULES.md through the public calls, a line for each. The stored output says what must come back.
 mod ask;
+mod boards;
 mod bounds;
 mod build;
 mod gifts;
@@ -14,6 +15,7 @@ fn main() {
     bounds::all();
     refusals::all();
     troubles::all();
+    boards::all();
     gifts::all();
     lookups::all();
 }

@@ -1,4 +1,4 @@
-// Every refusal from 1 to 11 but 5, by judging and by counting as far as each knows it; 5 is given no more.
+// Every refusal from 1 to 11 but 5, and 19, by judging and by counting as far as each knows it; 5 is given no more.
 use crate::ask;
 use crate::build;
 use crate::build::Asked;
@@ -20,13 +20,15 @@ fn task_sizes() {
     ask::judge_bytes(b"33 zeros", &long, b"");
 }
 
+// T's record one byte short, and without owner and spare bytes.
 fn slot_sizes() {
-    ask::judge(b"T with 7 bytes of slots", build::t(), b"\0\0\0\0\x08\0\0");
-    ask::count(
-        b"T with 7 bytes of slots",
+    let short = b"\0\0\0\0\x08\0\0\0\x02\0\0";
+    ask::judge(b"T with 11 bytes of slots", build::t(), short);
+    ask::count(b"T with 11 bytes of slots", build::t(), short, 0);
+    ask::judge(
+        b"T with 8 bytes of slots",
         build::t(),
-        b"\0\0\0\0\x08\0\0",
-        0,
+        b"\0\0\0\0\x08\0\0\0",
     );
 }
 
@@ -46,6 +48,19 @@ fn board() {
     let mut c = build::t();
     c.w = 7;
     each(b"T with w 7", c);
+}
+
+// An id that no slot can have as its owner, beside what comes before 19 and what comes after it.
+fn id() {
+    let mut a = build::t();
+    a.id = 65536;
+    each(b"T with id 65536", a);
+    a.first = 1;
+    each(b"T with id 65536 and first 1", a);
+    let mut b = build::t();
+    b.id = 65538;
+    b.w = 0;
+    each(b"T with id 65538 and w 0", b);
 }
 
 fn task() {
@@ -81,6 +96,7 @@ pub fn all() {
     slot_sizes();
     reply_size();
     board();
+    id();
     task();
     firmness();
     offset();

@@ -1,4 +1,4 @@
-// Refusals 14 to 17: a table's troubles, by judging and by the question which slot it is.
+// Refusals 14 to 18: a board's troubles, by judging and by the question which slot it is.
 use crate::ask;
 use crate::build;
 use records::Slot;
@@ -10,10 +10,14 @@ fn both(name: &[u8], count: u32, board: &[u8]) {
     ask::which(name, a, board);
 }
 
+fn two(name: &[u8], a: [u8; Slot::BYTES], b: [u8; Slot::BYTES]) {
+    let board = build::two_slots(a, b);
+    both(name, 2, &board);
+}
+
 // T on the slots (a,b) and (c,d).
 fn pair(name: &[u8], a: u32, b: u32, c: u32, d: u32) {
-    let board = build::two_slots(build::slot(a, b), build::slot(c, d));
-    both(name, 2, &board);
+    two(name, build::slot(a, b), build::slot(c, d));
 }
 
 // The first bad slot counts, and of it the first trouble.
@@ -25,14 +29,61 @@ fn pairs() {
     pair(b"T with (9,11) and (4,4)", 9, 11, 4, 4);
 }
 
-// Slots of zeros are bad, too, but 65 of them are too many first.
+// Either spare byte, and 17 before 18.
+fn spares() {
+    let good = build::slot(0, 4);
+    two(
+        b"T with spare bytes 1 and 0",
+        good,
+        build::record(4, 8, 2, 1),
+    );
+    two(
+        b"T with spare bytes 0 and 1",
+        good,
+        build::record(4, 8, 2, 256),
+    );
+    two(
+        b"T with (3,8) and spare bytes 1 and 0",
+        good,
+        build::record(3, 8, 2, 1),
+    );
+}
+
+// Another owner's slot is tested, too, and is the slot before T's.
+fn others() {
+    let other = build::record(0, 4, 3, 0);
+    two(
+        b"T behind another's (4,4)",
+        build::record(4, 4, 3, 0),
+        build::slot(4, 8),
+    );
+    two(
+        b"T behind another's (0,11)",
+        build::record(0, 11, 3, 0),
+        build::slot(4, 8),
+    );
+    two(
+        b"T with (3,8) behind another's (0,4)",
+        other,
+        build::slot(3, 8),
+    );
+    two(
+        b"T behind another's spare byte",
+        build::record(0, 4, 3, 1),
+        build::slot(4, 8),
+    );
+}
+
+// Slots of zeros are bad, too, but 513 of them are too many first.
 fn too_many() {
-    let board = [0u8; 65 * Slot::BYTES];
-    both(b"T with 64 slots (0,0)", 64, &board);
-    both(b"T with 65 slots (0,0)", 65, &board);
+    let board = [0u8; 513 * Slot::BYTES];
+    both(b"T with 512 slots (0,0)", 512, &board);
+    both(b"T with 513 slots (0,0)", 513, &board);
 }
 
 pub fn all() {
     pairs();
+    spares();
+    others();
     too_many();
 }

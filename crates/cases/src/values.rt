@@ -80,7 +80,7 @@ fn no_slots() {
 
 // Document 000's example in ticks of 10 µs.
 fn first_task() {
-    let board = build::two_slots(build::slot(11, 21), build::slot(33, 43));
+    let board = build::two_slots(build::record(11, 21, 1, 0), build::record(33, 43, 1, 0));
     let a = Asked {
         id: 1,
         w: 55,

@@ -30,7 +30,7 @@ pub extern "C" fn fiddlequill_site(tasks: &[u8], slots: &[u8], reply: &mut [u8])
     site::site(tasks, slots, reply)
 }
 
-// Which slot of the task's table is bad, and what about it; the refusal number and the slot's place, packed.
+// Which slot of the task's board is bad, and what about it; the refusal number and the slot's place, packed.
 #[no_mangle]
 pub extern "C" fn fiddlequill_which_slot(task: &[u8], slots: &[u8]) -> u64
     ensures { λ r. ⌜ PackedWhich (now (task .entry)) (now (slots .entry)) r ⌝ }

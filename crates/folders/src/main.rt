@@ -68,6 +68,11 @@ fn bad() {
         b"bad-slots-too-long/slots.bin",
     );
     folder(
+        b"bad-slots-full\n",
+        b"bad-slots-full/tasks.bin",
+        b"bad-slots-full/slots.bin",
+    );
+    folder(
         b"bad-slots-part\n",
         b"bad-slots-part/tasks.bin",
         b"bad-slots-part/slots.bin",

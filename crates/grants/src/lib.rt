@@ -10,7 +10,6 @@ use limits::Grid;
 use limits::GridMade;
 use limits::Task;
 use limits::TaskMade;
-use room::MOST_EDGES;
 
 pub struct Granted {
     pub number: u32,
@@ -59,7 +58,7 @@ pub fn grant(marks: &mut [u8], v: u64, e: u64, d: u64, h: u64, m: u64, k: u64) -
             slots: 0,
         },
         Checked::Good(grid, task) => {
-            let mut runs = [0u16; MOST_EDGES];
+            let mut runs = [0u16; Grid::MOST_SLOTS];
             match search::find(marks, grid.v, task, &mut runs) {
                 Smallest::Nothing => Granted {
                     number: 13,

@@ -1,8 +1,7 @@
 // The smallest number of first free slots that is firm, by halves: more slots never hurt.
 ghost use mathlib.Core.Path.{_≡_};
 ghost use lib.ListN.{length};
-ghost use Rattle.limits.specs.Limits.{asked, Within};
-ghost use Rattle.room.specs.Room.{mostEdges};
+ghost use Rattle.limits.specs.Limits.{mostGranted, asked, Within};
 ghost use Rattle.grants.specs.Grants.{Gridded, Halving, Searched};
 use limits::Task;
 
@@ -13,7 +12,7 @@ pub enum Smallest {
 
 // Between `low`, below which nothing is firm, and `high`, which is.
 fn halve(marks: &[u8], v: usize, task: Task, low: usize, high: usize, runs: &mut [u16]) -> usize
-    requires { ⌜ Gridded (now marks) v × Within task × (length (now runs) ≡ mostEdges) ⌝ }
+    requires { ⌜ Gridded (now marks) v × Within task × (length (now runs) ≡ mostGranted) ⌝ }
     requires { ⌜ Halving (now marks) v (asked task) low high ⌝ }
     ensures { λ r. ⌜ Halving (now (marks .entry)) v (asked task) r r ⌝ }
 {
@@ -32,7 +31,7 @@ fn halve(marks: &[u8], v: usize, task: Task, low: usize, high: usize, runs: &mut
 
 // With m 0 every table is firm. Otherwise no slots drop all strips, and if all the free ones aren't firm nothing is.
 pub fn find(marks: &[u8], v: usize, task: Task, runs: &mut [u16]) -> Smallest
-    requires { ⌜ Gridded (now marks) v × Within task × (length (now runs) ≡ mostEdges) ⌝ }
+    requires { ⌜ Gridded (now marks) v × Within task × (length (now runs) ≡ mostGranted) ⌝ }
     ensures { λ r. ⌜ Searched (now (marks .entry)) v (asked task) r ⌝ }
 {
     if task.m == 0 {

@@ -3,8 +3,7 @@ ghost use mathlib.Core.Path.{_≡_};
 ghost use Prim.Native.Nat.{_-_, _≤_};
 ghost use lib.Dec.{leb};
 ghost use lib.ListN.{length};
-ghost use Rattle.limits.specs.Limits.{asked, Within};
-ghost use Rattle.room.specs.Room.{mostEdges};
+ghost use Rattle.limits.specs.Limits.{mostGranted, asked, Within};
 ghost use Rattle.grants.specs.Grants.{Gridded, FirmSays};
 use limits::Task;
 
@@ -18,7 +17,7 @@ fn allowed(drops: u32, task: Task) -> bool
 
 // Marks to runs, runs to the verdict.
 pub fn firm(marks: &[u8], v: usize, task: Task, j: usize, runs: &mut [u16]) -> bool
-    requires { ⌜ Gridded (now marks) v × Within task × (length (now runs) ≡ mostEdges) ⌝ }
+    requires { ⌜ Gridded (now marks) v × Within task × (length (now runs) ≡ mostGranted) ⌝ }
     ensures { λ r. ⌜ FirmSays (now (marks .entry)) v (asked task) j r ⌝ }
 {
     let n = ticks::grid(marks, v, j, runs);

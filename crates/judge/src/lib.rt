@@ -1,6 +1,7 @@
 // The public questions of a task record and a slot buffer. Every byte string gets its reply: bad records are refused by number, in the one
 // fixed order, and a refusal writes only what docs/RULES.md names.
 pub mod jobs;
+mod lend;
 mod point;
 
 ghost use mathlib.Core.Path.{_≡_};
@@ -19,7 +20,6 @@ use crate::point::Gate;
 use limits::Task;
 use records::Checked;
 use records::answer::Answer;
-use room::MOST_EDGES;
 use room::Peak;
 
 pub struct Supplied {
@@ -112,8 +112,7 @@ pub fn judge(task: &[u8], slots: &[u8], reply: &mut [u8]) -> u32
     match records::check(r, slots) {
         Checked::Refused(bad) => refuse(reply, id, bad),
         Checked::Accepted(job) => {
-            let mut runs = [0u16; MOST_EDGES];
-            let p = jobs::worst(slots, job, &mut runs);
+            let p = lend::worst(slots, job);
             answer(reply, id, job.task, p);
             0
         }
@@ -130,8 +129,7 @@ pub fn supply(task: &[u8], slots: &[u8], offset: u64) -> Supplied
             supply: 0,
         },
         Gate::Open(job) => {
-            let mut runs = [0u16; MOST_EDGES];
-            let found = jobs::supply(slots, job, offset as usize, &mut runs);
+            let found = lend::supply(slots, job, offset as usize);
             Supplied {
                 number: 0,
                 supply: found as u32,
@@ -149,13 +147,10 @@ pub fn margin(task: &[u8], slots: &[u8], offset: u64) -> Measured
             number: n,
             margin: 0,
         },
-        Gate::Open(job) => {
-            let mut runs = [0u16; MOST_EDGES];
-            Measured {
-                number: 0,
-                margin: jobs::margin(slots, job, offset as usize, &mut runs),
-            }
-        }
+        Gate::Open(job) => Measured {
+            number: 0,
+            margin: lend::margin(slots, job, offset as usize),
+        },
     }
 }
 
@@ -168,12 +163,9 @@ pub fn count(task: &[u8], slots: &[u8], offset: u64) -> Counted
             number: n,
             count: 0,
         },
-        Gate::Open(job) => {
-            let mut runs = [0u16; MOST_EDGES];
-            Counted {
-                number: 0,
-                count: jobs::count(slots, job, offset as usize, &mut runs),
-            }
-        }
+        Gate::Open(job) => Counted {
+            number: 0,
+            count: lend::count(slots, job, offset as usize),
+        },
     }
 }

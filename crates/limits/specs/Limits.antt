@@ -1,6 +1,7 @@
--- docs/RULES.md, refusals 4, 6 to 10 and the size of a grant's wheel in 12, with the bounds they go by. Definitions only.
+-- docs/RULES.md, refusals 4, 6 to 10, 19 and the size of a grant's wheel in 12, with the bounds they go by. Definitions only.
 --
 --     outside x most              x is 0 or above most
+--     idRefusal id                19 for an id that no slot can have as its owner
 --     wheelRefusal w              4 for a bad wheel
 --     taskRefusal e D h m k       6 to 10, the first that applies
 --     gridRefusal N v             12 for a bad number or length of slots
@@ -25,7 +26,10 @@ abbrev pub mostTicks : ℕ
 mostTicks = 16384
 
 abbrev pub mostSlots : ℕ
-mostSlots = 64
+mostSlots = 512
+
+abbrev pub mostId : ℕ
+mostId = 65535
 
 abbrev pub mostNeed : ℕ
 mostNeed = 1000000
@@ -41,6 +45,9 @@ mostGranted = 64
 
 unfoldable pub outside : ℕ → ℕ → Bool
 outside x most = eqb x 0 || ltb most x
+
+unfoldable pub idRefusal : ℕ → ℕ
+idRefusal id = 19 when ltb mostId id
 
 unfoldable pub wheelRefusal : ℕ → ℕ
 wheelRefusal w = 4 when outside w mostTicks

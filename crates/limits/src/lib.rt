@@ -1,7 +1,7 @@
 // The bounds of wheel, task and grant, each a constant of what it limits, with constructors that refuse. A refusal is its number in docs/RULES.md.
 ghost use mathlib.Core.Path.{_≡_};
 ghost use Rattle.limits.specs.Refusal.{_when_, _otherwise_};
-ghost use Rattle.limits.specs.Limits.{outside, wheelRefusal, taskRefusal, gridRefusal, madeWheel, madeTask, madeGrid};
+ghost use Rattle.limits.specs.Limits.{outside, idRefusal, wheelRefusal, taskRefusal, gridRefusal, madeWheel, madeTask, madeGrid};
 
 // A wheel that was accepted.
 pub struct Wheel {
@@ -62,7 +62,8 @@ pub fn first(a: u32, b: u32) -> u32
 impl Wheel {
     pub const MOST_TICKS: usize = 16384;
 
-    pub const MOST_SLOTS: usize = 64;
+    // Slot records of a board, whoever owns them.
+    pub const MOST_SLOTS: usize = 512;
 
     fn refusal(w: usize) -> u32
         ensures { λ r. ⌜ r ≡ wheelRefusal w ⌝ }
@@ -84,11 +85,21 @@ impl Wheel {
 }
 
 impl Task {
+    // An owner has two bytes in a slot record.
+    pub const MOST_ID: usize = 65535;
+
     pub const MOST_NEED: usize = 1_000_000;
 
     pub const MOST_PERIOD: usize = 1_000_000;
 
     pub const MOST_STRIPS: usize = 1024;
+
+    // Refusal 19, or 0.
+    pub fn id_refusal(id: usize) -> u32
+        ensures { λ r. ⌜ r ≡ idRefusal id ⌝ }
+    {
+        when(19, Task::MOST_ID < id)
+    }
 
     fn refusal(e: usize, d: usize, h: usize, m: usize, k: usize) -> u32
         ensures { λ r. ⌜ r ≡ taskRefusal e d h m k ⌝ }

@@ -141,5 +141,5 @@ unpacked-margin task slots x r e =
 
 -- ---- refusals
 
-pub body-low : (r : TaskRecord) (l : List ℕ) → bodyRefusal r l ≤ 17
-body-low r l = body-all (λ n. n ≤ 17) (omega arith) (λ n low high. high) r l
+pub body-low : (r : TaskRecord) (l : List ℕ) → bodyRefusal r l ≤ 19
+body-low r l = body-all (λ n. n ≤ 19) (omega arith) (λ n low high. high) r l

@@ -19,7 +19,8 @@ unfolding bodyRefusal boardRefusal range slotsRefusal tableRefusal
 good-job r l e =
     let parts = both-none _ _ e in
     let far = both-none _ _ (parts .0) in
-    let wheel = both-none _ _ (far .1) in
+    let high = both-none _ _ (far .1) in
+    let wheel = both-none _ _ (high .1) in
     let slots = both-none _ _ (wheel .1) in
     let ticks = wheel-within (r .w) (wheel .0) in
     record {

@@ -6,8 +6,7 @@ use mathlib.Core.List.{List}
 use Prim.Native.Nat.{ℕ, _≤_, _<_}
 use native.Mathlib.Omega.{arith}
 use borrow.Author.Tests.{lt-ltb, le-ltb}
-use Rattle.rules.specs.Usable.{Slot}
-use Rattle.limits.specs.Limits.{mostSlots, wheelRefusal, madeWheel, madeTask}
+use Rattle.limits.specs.Limits.{mostSlots, idRefusal, wheelRefusal, madeWheel, madeTask}
 use Rattle.limits.specs.declared.Wheel.{Wheel}
 use Rattle.limits.specs.declared.Task.{Task}
 use Rattle.limits.specs.declared.WheelMade.the-variants as wheelMade
@@ -18,6 +17,7 @@ use Rattle.records.specs.Records.{slotAt}
 use Rattle.records.specs.Refusals.{range, troubleAt, firstBad, tableRefusal, slotsRefusal, boardRefusal, bodyRefusal, boarded, jobOf, checked}
 use Rattle.records.specs.Troubles.{aboutSlot, Placed, TroubleOf}
 use Rattle.records.specs.declared.TaskRecord.{TaskRecord}
+use Rattle.records.specs.declared.Slot.{Slot}
 use Rattle.records.specs.declared.board.Trouble.{Trouble}
 use Rattle.records.specs.declared.Job.{Job}
 use Rattle.records.specs.declared.Checked.the-variants.{Accepted, Refused}
@@ -40,21 +40,27 @@ module _ (r : TaskRecord) (l : List ℕ) where
   unfolding boardRefusal range aboutSlot
   board-far n e bad = (at-first _ _ _ e bad, rw e (when-all (λ x. aboutSlot x ≡ false) 3 _ refl refl))
 
-  pub board-wheel :
-      (n : ℕ) → range r l ≡ 0 → madeWheel (r .w) ≡ wheelMade.Refused n → (n ≡ boardRefusal r l) × (aboutSlot n ≡ false)
-  unfolding boardRefusal wheelRefusal aboutSlot
-  board-wheel n far e =
-      let p = wheel-refused (r .w) n e in
-      (at-next _ _ _ far (at-first _ _ _ (p .0) (p .1)), rw (p .0) (when-all (λ x. aboutSlot x ≡ false) 4 _ refl refl))
+  pub board-id : (n : ℕ) → range r l ≡ 0 → n ≡ idRefusal (r .id) → (n ≡ 0 → ⊥) → (n ≡ boardRefusal r l) × (aboutSlot n ≡ false)
+  unfolding boardRefusal idRefusal aboutSlot
+  board-id n far e bad = (at-next _ _ _ far (at-first _ _ _ e bad), rw e (when-all (λ x. aboutSlot x ≡ false) 19 _ refl refl))
 
-  pub board-table :
-      (x : Wheel) (t : Trouble) → range r l ≡ 0 → madeWheel (r .w) ≡ wheelMade.Made x
-      → Placed (tableRefusal (x .w) (slotAt l (r .first)) (r .count)) (troubleAt (x .w) (slotAt l (r .first))) (r .count) t
-      → TroubleOf r l (boardRefusal r l) t
-  unfolding boardRefusal slotsRefusal
-  board-table x t far made placed =
-      let p = wheel-made (r .w) x made in
-      placed-as t (rw (p .1) at placed) (at-next _ _ _ far (at-next _ _ _ (p .0) refl))
+  module _ (far : range r l ≡ 0) (high : idRefusal (r .id) ≡ 0) where
+    pub board-wheel : (n : ℕ) → madeWheel (r .w) ≡ wheelMade.Refused n → (n ≡ boardRefusal r l) × (aboutSlot n ≡ false)
+    unfolding boardRefusal wheelRefusal aboutSlot
+    board-wheel n e =
+        let p = wheel-refused (r .w) n e in (
+          at-next _ _ _ far (at-next _ _ _ high (at-first _ _ _ (p .0) (p .1))),
+          rw (p .0) (when-all (λ x. aboutSlot x ≡ false) 4 _ refl refl),
+        )
+
+    pub board-table :
+        (x : Wheel) (t : Trouble) → madeWheel (r .w) ≡ wheelMade.Made x
+        → Placed (tableRefusal (x .w) (slotAt l (r .first)) (r .count)) (troubleAt (x .w) (slotAt l (r .first))) (r .count) t
+        → TroubleOf r l (boardRefusal r l) t
+    unfolding boardRefusal slotsRefusal
+    board-table x t made placed =
+        let p = wheel-made (r .w) x made in
+        placed-as t (rw (p .1) at placed) (at-next _ _ _ far (at-next _ _ _ high (at-next _ _ _ (p .0) refl)))
 
   -- ---- the wheel behind its table
 
@@ -65,7 +71,8 @@ module _ (r : TaskRecord) (l : List ℕ) where
   pub board-good : (n : ℕ) → n ≡ boardRefusal r l → n ≡ 0 → madeWheel (r .w) ≡ boarded r l
   unfolding boarded boardRefusal madeWheel
   board-good n e z =
-      let wheel = both-none _ _ (both-none _ _ (sym e ∙ z) .1) .0 in
+      let high = both-none _ _ (both-none _ _ (sym e ∙ z) .1) in
+      let wheel = both-none _ _ (high .1) .0 in
       none-left _ _ _ wheel ∙ made-is _ _ e z
 
   board-made : (x : Wheel) → boarded r l ≡ wheelMade.Made x → (boardRefusal r l ≡ 0) × (x ≡ record { w = r .w })
@@ -93,12 +100,12 @@ module _ (r : TaskRecord) (l : List ℕ) where
 
     pub check-good :
         (t : Task) → madeTask (r .e) (r .d) (r .h) (r .m) (r .k) ≡ taskMade.Made t
-        → Accepted (record { wheel = x; first = r .first; count = r .count; task = t }) ≡ checked r l
+        → Accepted (record { wheel = x; owner = r .id; first = r .first; count = r .count; task = t }) ≡ checked r l
     unfolding checked bodyRefusal
     check-good t e =
         let b = board-made x board in
         let p = task-made _ _ _ _ _ t e in
-        ap Accepted (λ i. record { wheel = b .1 i; first = r .first; count = r .count; task = p .1 i })
+        ap Accepted (λ i. record { wheel = b .1 i; owner = r .id; first = r .first; count = r .count; task = p .1 i })
         ∙ made-is _ _ (at-next _ _ _ (b .0) (sym (p .0))) refl
 
   -- And back: an accepted record has no refusal and is the job asked for; a refused one has its number.

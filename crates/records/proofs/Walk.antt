@@ -6,10 +6,10 @@ use Prim.Native.Nat.{ℕ, zero, suc, _+_, _-_, _≤_, _<_}
 use native.Mathlib.Nat.{add-zero, add-suc, le-antisymm, eq-or-lt-of-le}
 use native.Mathlib.Numerals.{add-one}
 use native.Mathlib.Omega.{arith}
-use Rattle.rules.specs.Usable.{Slot}
 use Rattle.limits.proofs.Refusals.{otherwise-none, otherwise-some, clash}
 use Rattle.records.specs.Refusals.{slotRefusal, endBefore, troubleAt, firstBad}
 use Rattle.records.specs.Troubles.{aboutSlot, Placed}
+use Rattle.records.specs.declared.Slot.{Slot}
 use Rattle.records.specs.declared.board.Trouble.{Trouble}
 use Rattle.records.proofs.Numbers.{slots-about}
 

@@ -2,15 +2,17 @@
 --
 --     taskBytes, slotBytes, replyBytes    how long each of them is
 --     taskRecord l                 the numbers of a task record's bytes
---     slotOf s                     the rules' slot of a slot that was read
---     slotAt l first i             slot record first + i of the slot buffer l
---     boardOf r l                  the slots that a task record selects, all the painter's
---     ticksOf r l                  the ticks they make usable (rule 1)
+--     slotAt l first i             the numbers of slot record first + i of the slot buffer l
+--     slotOf s                     the rules' slot of a slot record
+--     owned l first id i           slot record first + i belongs to the task with that id
+--     board l first n id           the table of n slot records from `first` on, of which those that belong to id are the painter's
+--     boardOf r l                  the board that a task record selects, as its owner sees it
+--     ticksOf r l                  the ticks that its own slots make usable (rule 1)
 --     askedOf r                    the rules' task of a task record
 --     answerBytes id n f c o g     an answer record: id, refusal number, firm 1 or 0, worst count, worst offset, least margin
-use mathlib.Core.Bool.{true}
 use mathlib.Core.List.{List, _++_}
 use Prim.Native.Nat.{ℕ, _+_, _*_}
+use lib.Dec.{eqb}
 use lib.IntN.{ℤ}
 use Rattle.octets.specs.Octets.{le2, le4, bytes2, bytes4, twos}
 use Rattle.rules.specs.Sums.{Subset}
@@ -23,7 +25,7 @@ abbrev pub taskBytes : ℕ
 taskBytes = 32
 
 abbrev pub slotBytes : ℕ
-slotBytes = 8
+slotBytes = 12
 
 abbrev pub replyBytes : ℕ
 replyBytes = 20
@@ -42,14 +44,27 @@ taskRecord l =
       count = le2 l 30;
     }
 
+unfoldable pub slotAt : List ℕ → ℕ → ℕ → code.Slot
+slotAt l first i =
+    record {
+      start = le4 l (slotBytes * (first + i));
+      end = le4 l (slotBytes * (first + i) + 4);
+      owner = le2 l (slotBytes * (first + i) + 8);
+      spare = le2 l (slotBytes * (first + i) + 10);
+    }
+
 abbrev pub slotOf : code.Slot → Slot
 slotOf s = record { start = s .start; end = s .end }
 
-unfoldable pub slotAt : List ℕ → ℕ → ℕ → Slot
-slotAt l first i = record { start = le4 l (slotBytes * (first + i)); end = le4 l (slotBytes * (first + i) + 4) }
+-- Whose slots are a task's: those whose owner is its id.
+unfoldable pub owned : List ℕ → ℕ → ℕ → Subset
+owned l first id i = eqb (slotAt l first i .owner) id
+
+unfoldable pub board : List ℕ → ℕ → ℕ → ℕ → Table
+board l first n id = record { size = n; slot = λ i. slotOf (slotAt l first i); ours = owned l first id }
 
 unfoldable pub boardOf : TaskRecord → List ℕ → Table
-boardOf r l = record { size = r .count; slot = slotAt l (r .first); ours = λ _. true }
+boardOf r l = board l (r .first) (r .count) (r .id)
 
 unfoldable pub ticksOf : TaskRecord → List ℕ → Subset
 ticksOf r l = usable (r .w) (boardOf r l)

@@ -1,12 +1,12 @@
--- docs/RULES.md, the table of refusals 1 to 11 and 14 to 17, and the one order in which they are checked. Definitions only.
+-- docs/RULES.md, the table of refusals 1 to 11 and 14 to 19, and the one order in which they are checked. Definitions only.
 --
 --     sizes, room, range         1, 2 and 3
---     slotRefusal w b s          15 to 17: what is wrong with slot s behind a slot that ends at b, 0 for nothing
+--     slotRefusal w b s          15 to 18: what is wrong with slot s behind a slot that ends at b, 0 for nothing
 --     troubleAt w slot i         the same of slot i of a table
 --     firstBad w slot n          the number of the first bad one of n slots, 0 for none
 --     tableRefusal w slot n      14 for too many slots, or the first bad one's
 --     slotsRefusal r l           the same of the table that a task record selects
---     boardRefusal r l           3, 4 and 14 to 17 of it
+--     boardRefusal r l           3, 19, 4 and 14 to 18 of it
 --     bodyRefusal r l            all of a task record on a slot buffer: those of the board, then 6 to 10
 --     beyond w x                 11
 --     judgeRefusal t l reply     as judging checks them: 1, 2, the body's
@@ -15,19 +15,20 @@
 --     boarded r l                the wheel of a task record whose table is good, or its refusal
 --     checked r l                what an accepted task record is turned into, or its refusal
 --
--- The part's first slot has nothing before it: the record in front of `first` isn't the previous slot.
+-- The part's first slot has nothing before it: the record in front of `first` isn't the previous slot. Every record of the part is tested,
+-- and the slot before it is the record before it, whoever owns them.
 use mathlib.Core.Bool.{not, _||_}
 use mathlib.Core.List.{List}
 use Prim.Native.Nat.{ℕ, zero, suc, _+_, _*_, _/_, _%_}
 use lib.Dec.{leb, ltb, eqb}
 use lib.ListN.{length}
-use Rattle.rules.specs.Usable.{Slot}
 use Rattle.limits.specs.Refusal.{_when_, _otherwise_, ifNone}
-use Rattle.limits.specs.Limits.{mostSlots, wheelRefusal, taskRefusal, taskOf}
+use Rattle.limits.specs.Limits.{mostSlots, idRefusal, wheelRefusal, taskRefusal, taskOf}
 use Rattle.limits.specs.declared.WheelMade.{WheelMade}
 use Rattle.limits.specs.declared.WheelMade.the-variants as wheelMade
 use Rattle.records.specs.Records.{taskBytes, slotBytes, replyBytes, taskRecord, slotAt}
 use Rattle.records.specs.declared.TaskRecord.{TaskRecord}
+use Rattle.records.specs.declared.Slot.{Slot}
 use Rattle.records.specs.declared.Job.{Job}
 use Rattle.records.specs.declared.Checked.{Checked}
 use Rattle.records.specs.declared.Checked.the-variants.{Accepted, Refused}
@@ -46,6 +47,7 @@ slotRefusal w before s =
     15 when leb (s .end) (s .start)
     otherwise 16 when ltb w (s .end)
     otherwise 17 when ltb (s .start) before
+    otherwise 18 when ltb 0 (s .spare)
 
 unfoldable pub endBefore : (ℕ → Slot) → ℕ → ℕ
 endBefore slot zero = 0
@@ -66,7 +68,8 @@ slotsRefusal r slots = tableRefusal (r .w) (slotAt slots (r .first)) (r .count)
 
 -- The refusals of a slot table, then those of the task.
 unfoldable pub boardRefusal : TaskRecord → List ℕ → ℕ
-boardRefusal r slots = range r slots otherwise wheelRefusal (r .w) otherwise slotsRefusal r slots
+boardRefusal r slots =
+    range r slots otherwise idRefusal (r .id) otherwise wheelRefusal (r .w) otherwise slotsRefusal r slots
 
 unfoldable pub bodyRefusal : TaskRecord → List ℕ → ℕ
 bodyRefusal r slots = boardRefusal r slots otherwise taskRefusal (r .e) (r .d) (r .h) (r .m) (r .k)
@@ -94,6 +97,7 @@ abbrev pub jobOf : TaskRecord → Job
 jobOf r =
     record {
       wheel = record { w = r .w };
+      owner = r .id;
       first = r .first;
       count = r .count;
       task = taskOf (r .e) (r .d) (r .h) (r .m) (r .k);

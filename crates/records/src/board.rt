@@ -1,19 +1,20 @@
-// The slot records that a task selects: reading one, and the refusals 3, 4 and 14 to 17.
+// The slot records that a task selects: reading one, and the refusals 3, 19, 4 and 14 to 18.
 ghost use mathlib.Core.Path.{_≡_};
 ghost use Prim.Native.Nat.{_+_, _*_, _/_, _≤_, _<_};
 ghost use lib.ListN.{length};
 ghost use Rattle.limits.specs.Refusal.{_when_};
 ghost use Rattle.limits.specs.Limits.{mostSlots};
-ghost use Rattle.records.specs.Records.{slotBytes, slotOf, slotAt};
+ghost use Rattle.records.specs.Records.{slotBytes, slotAt};
 ghost use Rattle.records.specs.Refusals.{slotRefusal, troubleAt, firstBad, tableRefusal, boardRefusal, boarded};
 ghost use Rattle.records.specs.Troubles.{Placed, TroubleOf};
 ghost use lib.Dec.{ltb};
 use crate::Slot;
 use crate::TaskRecord;
+use limits::Task;
 use limits::Wheel;
 use limits::WheelMade;
 
-// What is wrong with a table: the refusal, and the place of the slot that it is about, counted from the task's first; 0 where it is about none.
+// What is wrong with a table: the refusal, and the place of the slot that it is about, counted from the board's first; 0 where it is about none.
 pub struct Trouble {
     pub number: u32,
     pub place: u32,
@@ -29,23 +30,26 @@ pub fn nowhere(number: u32) -> Trouble
 // Slot record `first` + i.
 pub fn slot_at(slots: &[u8], first: usize, i: usize) -> Slot
     requires { ⌜ first + i < length (now slots) / slotBytes ⌝ }
-    ensures { λ r. ⌜ slotOf r ≡ slotAt (now (slots .entry)) first i ⌝ }
+    ensures { λ r. ⌜ r ≡ slotAt (now (slots .entry)) first i ⌝ }
 {
     let at = Slot::BYTES * (first + i);
     Slot {
         start: octets::four(slots, at),
         end: octets::four(slots, at + 4),
+        owner: octets::two(slots, at + 8),
+        spare: octets::two(slots, at + 10),
     }
 }
 
 // What is wrong with a slot behind one that ends at `before`.
 fn slot_refusal(w: usize, before: usize, s: Slot) -> u32
-    ensures { λ r. ⌜ r ≡ slotRefusal w before (slotOf s) ⌝ }
+    ensures { λ r. ⌜ r ≡ slotRefusal w before s ⌝ }
 {
     let empty = limits::when(15, s.end <= s.start);
     let over = limits::when(16, w < s.end);
-    let late = limits::when(17, s.start < before);
-    limits::first(empty, limits::first(over, late))
+    let early = limits::when(17, s.start < before);
+    let spare = limits::when(18, 0 < s.spare);
+    limits::first(empty, limits::first(over, limits::first(early, spare)))
 }
 
 // The first bad slot, or 0.
@@ -80,7 +84,7 @@ fn range(first: usize, count: usize, total: usize) -> u32
     limits::when(3, total - count < first)
 }
 
-// Refusals 14 to 17, or 0.
+// Refusals 14 to 18, or 0.
 fn table(slots: &[u8], first: usize, count: usize, w: usize) -> Trouble
     requires { ⌜ first + count ≤ length (now slots) / slotBytes ⌝ }
     ensures { λ t. ⌜ Placed (tableRefusal w (slotAt (now (slots .entry)) first) count) (troubleAt w (slotAt (now (slots .entry)) first)) count t ⌝ }
@@ -91,13 +95,17 @@ fn table(slots: &[u8], first: usize, count: usize, w: usize) -> Trouble
     first_bad(slots, first, count, w)
 }
 
-// The first of the refusals 3, 4 and 14 to 17 that applies, and the slot that it is about.
+// The first of the refusals 3, 19, 4 and 14 to 18 that applies, and the slot that it is about.
 pub fn first_trouble(r: TaskRecord, slots: &[u8]) -> Trouble
     ensures { λ t. ⌜ TroubleOf r (now (slots .entry)) (boardRefusal r (now (slots .entry))) t ⌝ }
 {
     let far = range(r.first, r.count, slots.len() / Slot::BYTES);
     if far != 0 {
         return nowhere(far);
+    }
+    let high = Task::id_refusal(r.id);
+    if high != 0 {
+        return nowhere(high);
     }
     match Wheel::new(r.w) {
         WheelMade::Refused(bad) => nowhere(bad),

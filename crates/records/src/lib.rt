@@ -29,18 +29,22 @@ impl TaskRecord {
     pub const BYTES: usize = 32;
 }
 
+// The numbers of a slot record: from `start` to `end` the processor is the owner's. The spare bytes are zero in a good one.
 pub struct Slot {
     pub start: usize,
     pub end: usize,
+    pub owner: usize,
+    pub spare: usize,
 }
 
 impl Slot {
-    pub const BYTES: usize = 8;
+    pub const BYTES: usize = 12;
 }
 
-// A task record that was accepted: a good wheel and task, and the part of the slot buffer that is its table.
+// A task record that was accepted: a good wheel and task, the part of the slot buffer that is its board, and whose slots there are its own.
 pub struct Job {
     pub wheel: Wheel,
+    pub owner: usize,
     pub first: usize,
     pub count: usize,
     pub task: Task,
@@ -92,6 +96,7 @@ pub fn check(r: TaskRecord, slots: &[u8]) -> Checked
             TaskMade::Refused(bad) => Checked::Refused(bad),
             TaskMade::Made(task) => Checked::Accepted(Job {
                 wheel,
+                owner: r.id,
                 first: r.first,
                 count: r.count,
                 task,

@@ -1,4 +1,4 @@
--- Runs that were laid out in a buffer of the room's size are runs that the room takes, and what it answers holds of each set of ticks that they
+-- Runs that were laid out in a buffer have no more edges than it has places, and what the room answers holds of each set of ticks that they
 -- lay out. Assumes nothing.
 use mathlib.Core.Path.{_≡_}
 use mathlib.Core.Logic.{_↔_}
@@ -16,12 +16,12 @@ use Rattle.limits.specs.Limits.{asked}
 use Rattle.limits.specs.declared.Task.{Task}
 use Rattle.runs.specs.Runs.{Laid, Runs, LaidIn}
 use Rattle.runs.proofs.Edges.{runs-of}
-use Rattle.room.specs.Room.{mostEdges, Foremost, Nearest, Found, Judges, Tallied}
+use Rattle.room.specs.Room.{Foremost, Nearest, Found, Judges, Tallied}
 use Rattle.room.specs.declared.Peak.{Peak}
 
 pub handed :
-    {l l′ : List ℕ} {n w : ℕ} {u : Subset} → LaidIn l l′ n w u → length l ≡ mostEdges
-    → Runs (take n l′) w × (length (take n l′) ≤ mostEdges)
+    {l l′ : List ℕ} {n w most : ℕ} {u : Subset} → LaidIn l l′ n w u → length l ≤ most
+    → Runs (take n l′) w × (length (take n l′) ≤ most)
 handed {l} {l′} {n} laid long =
     (runs-of (laid .laid), omega (arith, length-take-le n l′ (laid .room), laid .room, laid .long))
 

@@ -1,6 +1,7 @@
 -- What the room is asked and what it answers, over runs of usable ticks. Definitions only.
 --
 --     mostEdges                 the most edges of the runs that the room takes: two a slot
+--     fewEdges                  up to so many edges the room has smaller arrays
 --     Lent l w t late map       what the work is lent: runs l of a wheel of w ticks, a task, room for its late runs, a map of the wheel
 --     Doubles n a b c d         arrays to double in on n ticks: a and b of bytes, c and d of 16 bits
 --     Lends n l m a b c d       all that a caller lends for wheels of up to n ticks: l for late runs, m for a map, the others to double in
@@ -41,6 +42,9 @@ use Rattle.room.specs.declared.Outline.the-variants as outline
 
 abbrev pub mostEdges : ℕ
 mostEdges = 2 * mostSlots
+
+abbrev pub fewEdges : ℕ
+fewEdges = 128
 
 pub record Lent (l : List ℕ) (w : ℕ) (t : Task) (late map : List ℕ) : Type 0 where
   pub runs : Runs l w

@@ -8,7 +8,7 @@ ghost use Prim.Native.Nat.{_*_, _≤_, _<_};
 ghost use lib.ListN.{length};
 ghost use Rattle.limits.specs.Limits.{mostTicks, Within};
 ghost use Rattle.runs.specs.Runs.{Runs};
-ghost use Rattle.room.specs.Room.{mostEdges, Lends, Found, Judges, Tallied, Asked, Told};
+ghost use Rattle.room.specs.Room.{mostEdges, fewEdges, Lends, Found, Judges, Tallied, Asked, Told};
 use limits::Task;
 use limits::Wheel;
 use maps::Crest;
@@ -44,11 +44,17 @@ enum Outline {
 // The most edges that runs may have here: two a slot.
 pub const MOST_EDGES: usize = 2 * Wheel::MOST_SLOTS;
 
+// Up to so many edges the arrays are smaller: most tasks own a few slots of a board.
+pub const FEW_EDGES: usize = 128;
+
 // The most edges that their late runs may have.
 pub const LATE_EDGES: usize = 2 * MOST_EDGES + 4;
 
+const FEW_LATE: usize = 2 * FEW_EDGES + 4;
+
+// Late runs have no more edges than the wheel has ticks.
 fn on_256(runs: &[u16], w: usize, task: Task, ask: Ask) -> Peak
-    requires { ⌜ Runs (now runs) w × Within task × (length (now runs) ≤ mostEdges) × (w ≤ 256) × Asked w ask ⌝ }
+    requires { ⌜ Runs (now runs) w × Within task × (w ≤ 256) × Asked w ask ⌝ }
     ensures { λ r. ⌜ Told (now (runs .entry)) w task ask r ⌝ }
 {
     let mut late = [0u16; 256];
@@ -57,24 +63,34 @@ fn on_256(runs: &[u16], w: usize, task: Task, ask: Ask) -> Peak
 }
 
 fn on_2048(runs: &[u16], w: usize, task: Task, ask: Ask) -> Peak
-    requires { ⌜ Runs (now runs) w × Within task × (length (now runs) ≤ mostEdges) × (w ≤ 2048) × Asked w ask ⌝ }
+    requires { ⌜ Runs (now runs) w × Within task × (length (now runs) ≤ fewEdges) × (w ≤ 2048) × Asked w ask ⌝ }
     ensures { λ r. ⌜ Told (now (runs .entry)) w task ask r ⌝ }
 {
-    let mut late = [0u16; LATE_EDGES];
+    let mut late = [0u16; FEW_LATE];
     let mut map = [0u8; 2048];
     work::tell(runs, w, task, ask, &mut late, &mut map)
 }
 
 fn on_4096(runs: &[u16], w: usize, task: Task, ask: Ask) -> Peak
-    requires { ⌜ Runs (now runs) w × Within task × (length (now runs) ≤ mostEdges) × (w ≤ 4096) × Asked w ask ⌝ }
+    requires { ⌜ Runs (now runs) w × Within task × (length (now runs) ≤ fewEdges) × (w ≤ 4096) × Asked w ask ⌝ }
     ensures { λ r. ⌜ Told (now (runs .entry)) w task ask r ⌝ }
 {
-    let mut late = [0u16; LATE_EDGES];
+    let mut late = [0u16; FEW_LATE];
     let mut map = [0u8; 4096];
     work::tell(runs, w, task, ask, &mut late, &mut map)
 }
 
 fn on_most(runs: &[u16], w: usize, task: Task, ask: Ask) -> Peak
+    requires { ⌜ Runs (now runs) w × Within task × (length (now runs) ≤ fewEdges) × (w ≤ mostTicks) × Asked w ask ⌝ }
+    ensures { λ r. ⌜ Told (now (runs .entry)) w task ask r ⌝ }
+{
+    let mut late = [0u16; FEW_LATE];
+    let mut map = [0u8; Wheel::MOST_TICKS];
+    work::tell(runs, w, task, ask, &mut late, &mut map)
+}
+
+// For many edges one size is enough: beside the walk along them a large map is soon cleared.
+fn on_many(runs: &[u16], w: usize, task: Task, ask: Ask) -> Peak
     requires { ⌜ Runs (now runs) w × Within task × (length (now runs) ≤ mostEdges) × (w ≤ mostTicks) × Asked w ask ⌝ }
     ensures { λ r. ⌜ Told (now (runs .entry)) w task ask r ⌝ }
 {
@@ -89,6 +105,9 @@ fn told(runs: &[u16], w: usize, task: Task, ask: Ask) -> Peak
 {
     if w <= 256 {
         return on_256(runs, w, task, ask);
+    }
+    if FEW_EDGES < runs.len() {
+        return on_many(runs, w, task, ask);
     }
     if w <= 2048 {
         return on_2048(runs, w, task, ask);
@@ -131,16 +150,16 @@ pub fn worst_in(
 
 // Needs no array as long as the wheel.
 fn quick(runs: &[u16], w: usize, task: Task) -> u32
-    requires { ⌜ Runs (now runs) w × Within task × (length (now runs) ≤ mostEdges) × (task .m ≡ task .k) ⌝ }
+    requires { ⌜ Runs (now runs) w × Within task × (length (now runs) ≤ fewEdges) × (task .m ≡ task .k) ⌝ }
     ensures { λ r. ⌜ Judges (now (runs .entry)) w task r ⌝ }
 {
-    let mut late = [0u16; LATE_EDGES];
+    let mut late = [0u16; FEW_LATE];
     work::quick(runs, w, task, &mut late)
 }
 
-// At most k − m exactly when the runs are firm (rule 7): the worst count, or less work where less tells.
+// At most k − m exactly when the runs are firm (rule 7): the worst count, or less work where less tells. Grants ask it, and they have few edges.
 pub fn verdict(runs: &[u16], w: usize, task: Task) -> u32
-    requires { ⌜ Runs (now runs) w × Within task × (length (now runs) ≤ mostEdges) ⌝ }
+    requires { ⌜ Runs (now runs) w × Within task × (length (now runs) ≤ fewEdges) ⌝ }
     ensures { λ r. ⌜ Judges (now (runs .entry)) w task r ⌝ }
 {
     if task.m == task.k {

@@ -10,7 +10,7 @@ use Rattle.rules.specs.Worst.{Wheel}
 use Rattle.limits.specs.Limits.{mostTicks}
 use Rattle.runs.specs.Runs.{Lay, LaidIn, Turn}
 use Rattle.runs.proofs.Edges.{lay-none, lay-span}
-use Rattle.ticks.specs.Ticks.{Span}
+use Rattle.ticks.specs.Ticks.{Span, Slotted}
 
 pub span-turn :
     (l l′ : List ℕ) (n from to step r : ℕ) → n < length l → from < to → Turn l n from step r l′ → Span l n from to step r l′
@@ -32,6 +32,18 @@ span-none l n from to step order none =
       lay = λ u lay _. rw e at lay;
     }
 
+-- A gap and a slot behind it.
+pub span-slot :
+    {l l′ l″ : List ℕ} {n k r at start end : ℕ} → Span l n at start 0 k l′ → Span l′ k start end 1 r l″ → start < end
+    → Slotted l n at start end r l″
+span-slot gap run some =
+    record {
+      long = run .long ∙ gap .long;
+      high = omega (arith, gap .high, run .high);
+      parity = run .parity some;
+      lay = λ u lay out within. run .lay u (gap .lay u lay out) within;
+    }
+
 -- The first n entries of l lay out u up to tick `at`, in a buffer that was l₀.
 pub record Come (u : Subset) (l₀ l : List ℕ) (n at : ℕ) : Type 0 where
   pub long : length l ≡ length l₀
@@ -44,6 +56,11 @@ pub come-on :
     {u : Subset} {l₀ l l′ : List ℕ} {n at to step r : ℕ} → Come u l₀ l n at → Span l n at to step r l′
     → ((x : ℕ) → at ≤ x → x < to → bit (u x) ≡ step) → Come u l₀ l′ r to
 come-on {u} come s after = record { long = s .long ∙ come .long; lay = s .lay u (come .lay) after }
+
+pub come-slot :
+    {u : Subset} {l₀ l l′ : List ℕ} {n at start end r : ℕ} → Come u l₀ l n at → Slotted l n at start end r l′
+    → ((x : ℕ) → at ≤ x → x < start → bit (u x) ≡ 0) → ((x : ℕ) → start ≤ x → x < end → bit (u x) ≡ 1) → Come u l₀ l′ r end
+come-slot {u} come s out within = record { long = s .long ∙ come .long; lay = s .lay u (come .lay) out within }
 
 pub come-round :
     {u : Subset} {l₀ l : List ℕ} {n w : ℕ} → Come u l₀ l n w → n ≤ length l₀ → Wheel w u → w ≤ mostTicks → LaidIn l₀ l n w u

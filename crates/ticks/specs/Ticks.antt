@@ -1,7 +1,8 @@
--- Tables and grants laid out as runs, in a buffer. Definitions only.
+-- Boards and grants laid out as runs, in a buffer. Definitions only.
 --
 --     Span l n from to step r l′     the first n entries of l have come to `from`, the first r of l′ go on to `to`, the ticks between as step says
---     Fits l first n w runs          what laying a table out is handed: a good table of n slots on a wheel of w ticks, room for its edges
+--     Slotted l n at start end r l′  the same of the ticks up to a slot's start, not usable, and those of the slot, usable
+--     Fits l first n w runs          what laying a board out is handed: a good table of n slots on a wheel of w ticks, room for two edges each
 --     freeOf l                       the free slots of a mark buffer: those with mark 1
 --     GridFits l v runs              what laying a grant out is handed: a wheel within its bound, room for an edge for each slot
 use mathlib.Core.Path.{_≡_}
@@ -21,6 +22,14 @@ pub record Span (l : List ℕ) (n from to step r : ℕ) (l′ : List ℕ) : Type
   pub parity : from < to → r % 2 ≡ step
   pub lay :
       (u : Subset) → Lay (take n l) from u → ((x : ℕ) → from ≤ x → x < to → bit (u x) ≡ step) → Lay (take r l′) to u
+
+pub record Slotted (l : List ℕ) (n at start end r : ℕ) (l′ : List ℕ) : Type 0 where
+  pub long : length l′ ≡ length l
+  pub high : r ≤ n + 2
+  pub parity : r % 2 ≡ 1
+  pub lay :
+      (u : Subset) → Lay (take n l) at u → ((x : ℕ) → at ≤ x → x < start → bit (u x) ≡ 0)
+      → ((x : ℕ) → start ≤ x → x < end → bit (u x) ≡ 1) → Lay (take r l′) end u
 
 pub record Fits (l : List ℕ) (first n w : ℕ) (runs : List ℕ) : Type 0 where
   pub part : first + n ≤ length l / slotBytes

@@ -1,17 +1,17 @@
-// The usable ticks of a supplier's table, or of a grant, as runs. This crate and the definition of usable ticks are all that know of slots
-// and marks.
+// The usable ticks of a task on its board, or of a grant, as runs. Behind this crate nothing knows of slots, owners or marks.
 ghost use mathlib.Core.Path.{_≡_};
 ghost use mathlib.Core.Bool.{true, _&&_};
-ghost use Prim.Native.Nat.{_*_, _≤_, _<_};
+ghost use Prim.Native.Nat.{_+_, _*_, _≤_, _<_};
 ghost use lib.Dec.{eqb, ltb};
 ghost use lib.ListN.{length};
 ghost use Rattle.rules.specs.Sums.{bit};
 ghost use Rattle.rules.specs.Usable.{usable};
 ghost use Rattle.rules.specs.Grant.{first, gridTicks};
 ghost use Rattle.limits.specs.Limits.{mostTicks};
-ghost use Rattle.records.specs.Records.{slotAt};
+ghost use Rattle.records.specs.Records.{board};
 ghost use Rattle.runs.specs.Runs.{LaidIn};
-ghost use Rattle.ticks.specs.Ticks.{Span, Fits, freeOf, GridFits};
+ghost use Rattle.ticks.specs.Ticks.{Span, Slotted, Fits, freeOf, GridFits};
+use records::Slot;
 
 // The ticks from `from` to `to` are out of the set (step 0) or in it (step 1). Where there are none, no edge comes between their neighbours.
 fn span(runs: &mut [u16], n: usize, from: usize, to: usize, step: usize) -> usize
@@ -24,21 +24,36 @@ fn span(runs: &mut [u16], n: usize, from: usize, to: usize, step: usize) -> usiz
     n
 }
 
-// The usable ticks of a supplier's table as runs. Slots that touch join.
-pub fn table(slots: &[u8], first: usize, count: usize, w: usize, runs: &mut [u16]) -> usize
+// The ticks from `at` to a slot's start are out of the set, those of the slot are in it.
+fn slot(runs: &mut [u16], n: usize, at: usize, s: Slot) -> usize
+    requires { ⌜ (n + 1 < length (now runs)) × (at ≤ s .start) × (s .start < s .end) × (s .end ≤ mostTicks) ⌝ }
+    ensures { λ r. ⌜ Slotted (now (runs .entry)) n at (s .start) (s .end) r (now (runs .exit)) ⌝ }
+{
+    let k = span(runs, n, at, s.start, 0);
+    span(runs, k, s.start, s.end, 1)
+}
+
+// The usable ticks of the owner's slots on a board as runs. Slots that touch join; another owner's slot is passed by.
+pub fn table(
+    slots: &[u8],
+    first: usize,
+    count: usize,
+    owner: usize,
+    w: usize,
+    runs: &mut [u16],
+) -> usize
     requires { ⌜ Fits (now slots) first count w (now runs) ⌝ }
-    ensures { λ r. ⌜ LaidIn (now (runs .entry)) (now (runs .exit)) r w (usable w (record { size = count; slot = slotAt (now (slots .entry)) first; ours = λ _. true })) ⌝ }
+    ensures { λ r. ⌜ LaidIn (now (runs .entry)) (now (runs .exit)) r w (usable w (board (now (slots .entry)) first count owner)) ⌝ }
 {
     let mut n = 0;
     let mut at = 0;
     let mut i = 0;
     while i < count {
         let s = records::board::slot_at(slots, first, i);
-        let start = s.start;
-        let end = s.end;
-        n = span(runs, n, at, start, 0);
-        n = span(runs, n, start, end, 1);
-        at = end;
+        if s.owner == owner {
+            n = slot(runs, n, at, s);
+            at = s.end;
+        }
         i += 1;
     }
     span(runs, n, at, w, 0)

@@ -68,7 +68,7 @@ module _ (task slots : List ℕ) where
   ours-board : Ours b
   unfolding Ours known aboutSlot
   ours-board =
-      board-all Ours (inl refl) (inr refl) (inr refl) (inr refl) (inr refl) (inr refl) (inr refl) (taskRecord task) slots
+      board-all Ours (inl refl) (inr refl) (inr refl) (inr refl) (inr refl) (inr refl) (inr refl) (inr refl) (inr refl) (taskRecord task) slots
 
   other-task : Other t
   unfolding Other known aboutSlot

@@ -1,8 +1,8 @@
-// Which slot of a task's table is bad, and what about it.
+// Which slot of a task's board is bad, and what about it.
 ghost use Rattle.which.specs.Which.{Which};
 use records::board::Trouble;
 
-// The table's trouble, whatever the task's other numbers are: refusals 1, 3, 4 and 14 to 17, in that order, or 0.
+// The board's trouble, whatever the task's other numbers are: refusals 1, 3, 19, 4 and 14 to 18, in that order, or 0.
 pub fn which_slot(task: &[u8], slots: &[u8]) -> Trouble
     ensures { λ t. ⌜ Which (now (task .entry)) (now (slots .entry)) t ⌝ }
 {

@@ -8,8 +8,8 @@ use Rattle.judge.proofs.count.Tie as tie
 
 count-requires : tie.Need-count-requires
 count-requires c κs =
-    let entered = sym (c .before .before .before .before .enter .ensures) ∙ c .before .before .job .given .1 in
-    (enter-good _ _ _ _ entered, enter-inside _ _ _ _ entered, search needs)
+    let entered = sym (c .before .before .before .enter .ensures) ∙ c .before .job .given .1 in
+    (enter-good _ _ _ _ entered, enter-inside _ _ _ _ entered)
 
 returns : tie.Need-returns
 returns c =
@@ -18,10 +18,10 @@ returns c =
 
 returns-2 : tie.Need-returns-2
 returns-2 c =
-    let entered = sym (c .before .before .before .before .before .before .enter .ensures) ∙ c .before .before .before .before .job .given .1 in
-    (enter-number _ _ _ _ entered, enter-count _ _ _ _ entered _ (c .before .count .ensures))
+    let entered = sym (c .before .before .before .before .enter .ensures) ∙ c .before .before .job .given .1 in
+    (enter-number _ _ _ _ entered, enter-count _ _ _ _ entered _ (c .count .ensures))
 
 pub count-spec : {M : Type 1} → statement M
 count-spec =
     tie.close
-    (tie.spec (λ c κs. search needs) (λ c. search needs) (λ c. search needs) (λ c. search needs) count-requires returns returns-2)
+    (tie.spec (λ c κs. search needs) (λ c. search needs) (λ c. search needs) count-requires returns returns-2)

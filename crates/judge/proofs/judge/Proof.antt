@@ -19,12 +19,12 @@ read-requires c κs = sizes-long _ _ (sym (c .before .before .sizes .ensures) �
 
 worst-requires : tie.Need-worst-requires
 worst-requires c κs =
-    let arm = c .before .before in
-    (good-accepted _ _ _ (sym (arm .before .before .check .ensures) ∙ arm .job .given .1), search needs)
+    let arm = c .before in
+    good-accepted _ _ _ (sym (arm .before .before .check .ensures) ∙ arm .job .given .1)
 
 answer-requires : tie.Need-answer-requires
 answer-requires c κs =
-    let arm = c .before .before .before .before .before in
+    let arm = c .before .before .before in
     let check = arm .before .before in
     (check .before .before .if2 .left, good-accepted _ _ _ (sym (check .check .ensures) ∙ arm .job .given .1) .within .painted)
 
@@ -40,8 +40,8 @@ returns-3 c =
 
 returns-4 : tie.Need-returns-4
 returns-4 c =
-    let found = c .before .before .before .before .before in
-    let arm = found .before .before .before in
+    let found = c .before .before .before .before in
+    let arm = found .before .before in
     let check = arm .before .before in
     let read = check .before in
     let good = sym (read .before .before .before .sizes .ensures) ∙ read .before .before .if1 .left in
@@ -52,5 +52,5 @@ pub judge-spec : {M : Type 1} → statement M
 judge-spec =
     tie.close
     (tie.spec (λ c κs. search needs) returns returns-2 read-requires (λ c κs. search needs) (λ c. search needs)
-    (λ c κs. search needs) (λ c. search needs) (λ c. search needs) worst-requires answer-requires (λ c. search needs) returns-3
-    (λ c. search needs) returns-4)
+    (λ c κs. search needs) (λ c. search needs) worst-requires answer-requires (λ c. search needs) returns-3 (λ c. search needs)
+    returns-4)

@@ -9,8 +9,8 @@ use Rattle.judge.proofs.margin.Tie as tie
 
 margin-requires : tie.Need-margin-requires
 margin-requires c κs =
-    let entered = sym (c .before .before .before .before .enter .ensures) ∙ c .before .before .job .given .1 in
-    (enter-good _ _ _ _ entered, enter-inside _ _ _ _ entered, search needs)
+    let entered = sym (c .before .before .before .enter .ensures) ∙ c .before .job .given .1 in
+    (enter-good _ _ _ _ entered, enter-inside _ _ _ _ entered)
 
 returns : tie.Need-returns
 returns c =
@@ -19,11 +19,10 @@ returns c =
 
 returns-2 : tie.Need-returns-2
 returns-2 c =
-    let entered = sym (c .before .before .before .before .before .before .enter .ensures) ∙ c .before .before .before .before .job .given .1 in
-    (enter-number _ _ _ _ entered, enter-margin _ _ _ _ entered _ (toZ-ofZ (record { sfits = c .before .margin .ok }) ∙ c .before .margin .ensures))
+    let entered = sym (c .before .before .before .before .enter .ensures) ∙ c .before .before .job .given .1 in
+    (enter-number _ _ _ _ entered, enter-margin _ _ _ _ entered _ (toZ-ofZ (record { sfits = c .margin .ok }) ∙ c .margin .ensures))
 
 pub margin-spec : {M : Type 1} → statement M
 margin-spec =
     tie.close
-    (tie.spec (λ c κs. search needs) (λ c. search needs) (λ c. search needs) (λ c. search needs) margin-requires returns
-    returns-2)
+    (tie.spec (λ c κs. search needs) (λ c. search needs) (λ c. search needs) margin-requires returns returns-2)

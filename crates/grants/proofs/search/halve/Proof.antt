@@ -3,8 +3,7 @@
 use mathlib.Core.Path.{_≡_}
 use Prim.Native.Nat.{_-_}
 use lib.ListN.{length}
-use Rattle.limits.specs.Limits.{asked}
-use Rattle.room.specs.Room.{mostEdges}
+use Rattle.limits.specs.Limits.{mostGranted, asked}
 use Rattle.grants.specs.Grants.{Halving}
 use Rattle.grants.proofs.Halves.{halve-few, halve-down, halve-up}
 use native.Mathlib.Omega.{arith}
@@ -12,7 +11,7 @@ use Rattle.grants.proofs.search.halve.Statement.{statement}
 use Rattle.grants.proofs.search.halve.Tie as tie
 
 abbrev Inv-loop : tie.InvT-loop
-Inv-loop marks v task low high runs₀ below₀ above₀ runs below above = (length runs ≡ mostEdges) × Halving marks v (asked task) below above
+Inv-loop marks v task low high runs₀ below₀ above₀ runs below above = (length runs ≡ mostGranted) × Halving marks v (asked task) below above
 
 abbrev μ-loop : tie.MeasureT-loop
 μ-loop marks v task low high runs₀ below₀ above₀ runs below above = above - below

@@ -1,7 +1,9 @@
 -- `grants::trial::firm` meets its contract: the first j free slots are laid out as runs, and what holds of every set of ticks that
 -- they lay out holds of the grant's (proofs/Trials.antt). Assumes nothing.
 use mathlib.Core.Path.{sym}
+use native.Mathlib.Omega.{arith}
 use lib.Seq.{length-take-le}
+use Rattle.room.specs.Room.{fewEdges}
 use Rattle.room.proofs.Handed.{handed, judged}
 use Rattle.grants.proofs.Trials.{trial-says}
 use borrow.Author.Needs.{needs}
@@ -15,7 +17,7 @@ verdict-requires : tie.Need-verdict-requires
 verdict-requires c κs =
     let laid = c .before .before .before in
     let start = laid .before .before .before .before in
-    let runs = handed (laid .grid .ensures) (start .pre .2) in
+    let runs = handed {most = fewEdges} (laid .grid .ensures) (omega (arith, start .pre .2)) in
     (runs .0, start .pre .1, runs .1)
 
 returns : tie.Need-returns

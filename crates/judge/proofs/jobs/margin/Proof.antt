@@ -14,7 +14,7 @@ slice-aggregate-margin c = sym (length-take-le _ _ (c .before .before .before .l
 margin-requires : tie.Need-margin-requires
 margin-requires c κs =
     let start = c .before .before .before .before .before .before .before .before in
-    let runs = handed (c .before .before .before .lay .ensures) (start .pre .2) in
+    let runs = handed (c .before .before .before .lay .ensures) (start .pre .2 .most) in
     (runs .0, start .pre .1, start .pre .0 .within)
 
 returns : tie.Need-returns

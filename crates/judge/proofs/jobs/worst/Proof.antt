@@ -14,7 +14,7 @@ slice-aggregate-worst c = sym (length-take-le _ _ (c .before .before .before .la
 worst-requires : tie.Need-worst-requires
 worst-requires c κs =
     let start = c .before .before .before .before .before .before .before .before in
-    let runs = handed (c .before .before .before .lay .ensures) (start .pre .1) in
+    let runs = handed (c .before .before .before .lay .ensures) (start .pre .1 .most) in
     (runs .0, start .pre .0 .within, runs .1)
 
 returns : tie.Need-returns

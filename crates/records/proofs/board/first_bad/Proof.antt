@@ -3,11 +3,11 @@
 use mathlib.Core.Path.{refl, sym, ap, _∙_}
 use Prim.Native.Nat.{_+_, _-_, _/_, _≤_}
 use lib.ListN.{length}
-use Rattle.rules.specs.Usable.{Slot}
 use Rattle.limits.specs.Limits.{mostSlots}
 use Rattle.records.specs.Records.{slotBytes, slotAt}
 use Rattle.records.specs.Refusals.{slotRefusal}
 use Rattle.records.specs.Troubles.{aboutSlot}
+use Rattle.records.specs.declared.Slot.{Slot}
 use Rattle.records.proofs.Walk.{Passed, passed-none, passed-more, passed-bad, passed-all, placed-nowhere}
 use native.Mathlib.Omega.{arith}
 use Rattle.records.proofs.board.first_bad.Statement.{statement}

@@ -1,7 +1,9 @@
 -- `walk::lent::worst_in` meets its contract: the job's slots are laid out as runs, and what holds of every set of ticks that
 -- they lay out holds of the job's. Assumes nothing.
 use mathlib.Core.Path.{sym}
+use native.Mathlib.Omega.{arith}
 use lib.Seq.{length-take-le}
+use Rattle.room.specs.Room.{mostEdges}
 use Rattle.room.proofs.Handed.{handed, found}
 use borrow.Author.Needs.{needs}
 use Rattle.walk.proofs.lent.worst_in.Statement.{statement}
@@ -14,7 +16,7 @@ worst-in-requires : tie.Need-worst-in-requires
 worst-in-requires c κs =
     let laid = c .before .before .before .before .before .before .before .before .before in
     let start = laid .before .before .before .before .before .before .before .before .before .before .before in
-    let runs = handed (laid .lay .ensures) (start .pre .0 .1) in
+    let runs = handed {most = mostEdges} (laid .lay .ensures) (omega (arith, start .pre .0 .1)) in
     ((runs .0, start .pre .0 .0 .within, runs .1), start .pre .1)
 
 returns : tie.Need-returns
