@@ -157,8 +157,16 @@ int main(void)
     static const struct {
         const char *name;
         void *(*call)(void *);
-    } calls[] = {{"judge", judge}, {"site", site},     {"which slot", which_slot}, {"count", count},
-                 {"supply", supply}, {"margin", margin}, {"grant", grant}};
+        uint32_t slots_max;
+    } calls[] = {
+        {"judge", judge, FIDDLEQUILL_SLOTS_MAX},
+        {"site", site, FIDDLEQUILL_SLOTS_MAX},
+        {"which slot", which_slot, FIDDLEQUILL_SLOTS_MAX},
+        {"count", count, FIDDLEQUILL_SLOTS_MAX},
+        {"supply", supply, FIDDLEQUILL_SLOTS_MAX},
+        {"margin", margin, FIDDLEQUILL_SLOTS_MAX},
+        {"grant", grant, FIDDLEQUILL_GRANT_SLOTS_MAX},
+    };
     static const struct {
         uint32_t w, slots;
     } boards[] = {
@@ -174,6 +182,8 @@ int main(void)
     for (size_t i = 0; i < sizeof calls / sizeof *calls; i++)
         for (size_t j = 0; j < sizeof boards / sizeof *boards; j++) {
             const uint32_t w = boards[j].w, slots = boards[j].slots;
+            if (slots > calls[i].slots_max)
+                continue;
             size_t depth = depth_of(calls[i].call, w, slots) - depth_of(idle, w, slots);
             printf("%s with w %u, %u slots: %zu bytes\n", calls[i].name, (unsigned)w, (unsigned)slots, depth);
             deepest = depth > deepest ? depth : deepest;
