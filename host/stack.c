@@ -114,11 +114,12 @@ static void *margin(void *context)
     return NULL;
 }
 
+/* With m = k the least margin alone would decide, and no array would be lent. */
 static void *grant(void *context)
 {
     struct biggest *b = context;
     b->number = fiddlequill_number(
-        fiddlequill_grant(b->marks, sizeof b->marks, b->w / sizeof b->marks, b->e, b->h, b->h, b->k, b->k));
+        fiddlequill_grant(b->marks, sizeof b->marks, b->w / sizeof b->marks, b->e, b->h, b->h, b->k / 2, b->k));
     return NULL;
 }
 
