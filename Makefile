@@ -51,9 +51,10 @@ BENCH_MACHINE := $(shell uname -sm)$(shell lscpu 2>/dev/null | sed -n 's/^Model 
 
 SECOND := definition inputs tally hand second
 ASKED := definition inputs questions asked files
-DESK := desk files
+SANITIZED_USERS := build/sanitized/records build/sanitized/desk build/sanitized/slider
 BENCH := bench report workload plan fp doubling remainder files
-PROGRAMS := build/second build/asked build/stack build/halfway build/records build/desk build/bench$(BENCH_KIND)
+PROGRAMS := build/second build/asked build/stack build/halfway build/records build/desk build/slider \
+	build/bench$(BENCH_KIND)
 
 .PHONY: help kit tools test lib install sheet host header-check host-test soak sanitize bench bench-instructions clean always
 
@@ -92,7 +93,7 @@ build/include/fiddlequill.h: $(HEADER)
 
 build/fiddlequill.pc: Makefile
 	@mkdir -p build
-	printf 'prefix=%s\nlibdir=$${prefix}/lib\nincludedir=$${prefix}/include\n\nName: fiddlequill\nDescription: proved judge for lobby displays\nVersion: 4.0.0\nLibs: -L$${libdir} -lfiddlequill\nCflags: -I$${includedir}\n' '$(PREFIX)' >$@
+	printf 'prefix=%s\nlibdir=$${prefix}/lib\nincludedir=$${prefix}/include\n\nName: fiddlequill\nDescription: proved judge for lobby displays\nVersion: 4.1.0\nLibs: -L$${libdir} -lfiddlequill\nCflags: -I$${includedir}\n' '$(PREFIX)' >$@
 
 install: lib
 	@rm -f build/fiddlequill.pc
@@ -124,13 +125,15 @@ host: $(PROGRAMS) header-check
 header-check: $(HEADER)
 	$(CXX) -Wall -Wextra -Wpedantic -Werror -I$(INCLUDE) -fsyntax-only host/header.cpp
 
-# An example's tables made into records beside the programs, and what the desk says of them compared with what it must say:
-# $(call example,its name,the programs' folder).
+# An example's tables made into records beside the programs, and what the desk says of them, and the slider for each line of the example's
+# slides, compared with what they must say: $(call example,its name,the programs' folder).
 define example
 rm -rf $(2)/$(1) && cp -R examples/$(1) $(2)/$(1)
 $(2)/records make $(2)/$(1)
 $(2)/desk $(2)/$(1) >$(2)/$(1)/desk.out
 diff examples/$(1)/desk.expected $(2)/$(1)/desk.out
+while read -r slide; do $(2)/slider $(2)/$(1) $$slide || exit 1; done <examples/$(1)/slides >$(2)/$(1)/slider.out
+diff examples/$(1)/slider.expected $(2)/$(1)/slider.out
 endef
 
 host-test: host build/sheet build/questions
@@ -141,6 +144,7 @@ host-test: host build/sheet build/questions
 	host/sheet.sh build/sheet build/records examples/board build/board-sheet >build/board/sheet.out
 	diff examples/board/sheet.expected build/board/sheet.out
 	examples/desk-test.sh build/desk build/records build/site
+	examples/slider-test.sh build/slider build/records build/site
 	build/stack
 	rm -rf build/asked-room && mkdir build/asked-room
 	build/asked '$(CURDIR)/build/questions' build/asked-room
@@ -149,11 +153,12 @@ host-test: host build/sheet build/questions
 soak: build/second
 	build/second 5000000 $$(od -An -N4 -tu4 /dev/urandom | tr -d ' ')
 
-sanitize: build/questions build/sanitized/second build/sanitized/asked build/sanitized/desk build/sanitized/records
+sanitize: build/questions build/sanitized/second build/sanitized/asked $(SANITIZED_USERS)
 	host/records-test.sh build/sanitized/records
 	$(call example,site,build/sanitized)
 	$(call example,board,build/sanitized)
 	examples/desk-test.sh build/sanitized/desk build/sanitized/records build/sanitized/site
+	examples/slider-test.sh build/sanitized/slider build/sanitized/records build/sanitized/site
 	rm -rf build/sanitized/asked-room && mkdir build/sanitized/asked-room
 	build/sanitized/asked '$(CURDIR)/build/questions' build/sanitized/asked-room
 	build/sanitized/second 20000
@@ -181,16 +186,13 @@ build/stack: build/host/stack.o $(ARCHIVE)
 build/halfway: build/host/halfway.o build/host/files.o
 	$(call link,)
 
-build/records: build/host/records.o build/host/files.o $(ARCHIVE)
+build/records build/desk build/slider: build/%: build/host/%.o build/host/files.o $(ARCHIVE)
 	$(call link,)
 
-build/desk: $(DESK:%=build/host/%.o) $(ARCHIVE)
-	$(call link,)
+# This and the next are made anew each time: another archive may be meant by now, and an older one at that.
+build/bench$(BENCH_KIND): $(BENCH:%=build/bench-objects$(BENCH_KIND)/%.o) $(BENCH_ARCHIVE) $(if $(BENCH_BEFORE),build/before.a) always
+	$(BENCH_CC) $(LDFLAGS) $(filter-out always,$^) $(LDLIBS) -o $@
 
-build/bench$(BENCH_KIND): $(BENCH:%=build/bench-objects$(BENCH_KIND)/%.o) $(BENCH_ARCHIVE) $(if $(BENCH_BEFORE),build/before.a)
-	$(BENCH_CC) $(LDFLAGS) $^ $(LDLIBS) -o $@
-
-# Made anew each time: another file may be meant by now, and an older one at that.
 build/before.a: $(BENCH_BEFORE) always
 	@mkdir -p $(@D)
 	objcopy $(foreach call,$(BENCH_BEFORE_CALLS),--redefine-sym fiddlequill_$(call)=before_$(call)) \
@@ -202,10 +204,7 @@ build/sanitized/second: $(SECOND:%=build/sanitized/%.o) $(ARCHIVE)
 build/sanitized/asked: $(ASKED:%=build/sanitized/%.o)
 	$(call link,$(SANITIZE))
 
-build/sanitized/records: build/sanitized/records.o build/sanitized/files.o $(ARCHIVE)
-	$(call link,$(SANITIZE))
-
-build/sanitized/desk: $(DESK:%=build/sanitized/%.o) $(ARCHIVE)
+$(SANITIZED_USERS): build/sanitized/%: build/sanitized/%.o build/sanitized/files.o $(ARCHIVE)
 	$(call link,$(SANITIZE))
 
 # The definition adds up cells by the billion; let the compiler take several at once.

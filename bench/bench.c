@@ -2,9 +2,10 @@
  * Side by side, in one run and taking turns: the published Finite-Point method
  * (FP), plain doubling in C, in 16 bits and with a byte stage, the archive, and a
  * floor; then a task on a board beside its own records alone, a site in one call
- * beside a call for each sign, and counting beside the obvious loop. Where an older
- * archive was given, it takes its turns on the same tasks. Every case compares the
- * answers; the exit status depends on that alone, never on a time.
+ * beside a call for each sign, counting beside the obvious loop, and the verdict
+ * alone (quick) beside judging. Where an older archive was given, it takes its turns
+ * on the same tasks. Every case compares the answers; the exit status depends on
+ * that alone, never on a time.
  *
  *   bench FOLDER           prints the report, writes FOLDER/RESULTS.md and results.csv
  *   bench --once W SLOTS K calls each kind once, for counting instructions
@@ -23,6 +24,10 @@
 
 #define LENGTH(array) (sizeof(array) / sizeof *(array))
 
+/* A stack moves in steps of so many bytes, and so many of them are a line of the cache. */
+enum { STACK_STEP = 16, STACK_PLACES = 4 };
+_Static_assert(ROUNDS % STACK_PLACES == 0, "no place counts more than another");
+
 /* ---- timing ---- */
 
 /* Processor time, not wall time: other work on the machine would fall on the longer batches and lift FP's times. */
@@ -33,16 +38,9 @@ static double now_ns(void)
     return (double)t.tv_sec * 1e9 + (double)t.tv_nsec;
 }
 
-static int compare_times(const void *a, const void *b)
-{
-    double x = *(const double *)a, y = *(const double *)b;
-    return (x > y) - (x < y);
-}
-
 static double median(double *times)
 {
-    qsort(times, ROUNDS, sizeof *times, compare_times);
-    return times[ROUNDS / 2];
+    return middle(times, ROUNDS);
 }
 
 /* Upper quartile over lower quartile of sorted times: 1 is a quiet run. */
@@ -75,25 +73,42 @@ static void calibrate(struct contender *c)
         c->repeats *= 2;
 }
 
-/* Contenders take turns, so that a slow moment of the machine falls on all. */
+/* The same from so many steps further down the stack; the array is read behind the call, so it lasts till then. */
+static double time_job_below(const struct contender *c, size_t steps)
+{
+    volatile uint8_t passed[1 + steps * STACK_STEP];
+    passed[0] = 0;
+    return time_job(c) + passed[0];
+}
+
+/*
+ * Contenders take turns, so that a slow moment of the machine falls on all. The time of a short call goes by where its
+ * arrays lie in the lines of the cache, and a stack begins elsewhere in every run: so the rounds go through the places.
+ */
 static void take_turns(struct contender *contenders, size_t n)
 {
     for (size_t i = 0; i < n; i++)
         calibrate(&contenders[i]);
     for (size_t round = 0; round < ROUNDS; round++)
         for (size_t i = 0; i < n; i++)
-            contenders[i].times[round] = time_job(&contenders[i]);
+            contenders[i].times[round] = time_job_below(&contenders[i], round % STACK_PLACES);
+}
+
+/* Round by round, so before a median of the times, which puts the rounds out of order. */
+static double ratio_of_rounds(const struct contender *over, const struct contender *under)
+{
+    double ratios[ROUNDS];
+    for (size_t i = 0; i < ROUNDS; i++)
+        ratios[i] = over->times[i] / under->times[i];
+    return median(ratios);
 }
 
 /* By turns with nobody else, and round by round: what disturbs the machine then disturbs both. */
 static double ratio_by_turns(job run, void *over, void *under)
 {
     struct contender c[] = {{.run = run, .context = over}, {.run = run, .context = under}};
-    double ratios[ROUNDS];
     take_turns(c, LENGTH(c));
-    for (size_t i = 0; i < ROUNDS; i++)
-        ratios[i] = c[0].times[i] / c[1].times[i];
-    return median(ratios);
+    return ratio_of_rounds(&c[0], &c[1]);
 }
 
 /* ---- jobs ---- */
@@ -133,6 +148,11 @@ static bool same_bytes(const struct judging *a, const struct judging *b)
 static bool same_answer(const struct judging *a, const struct judging *b)
 {
     return a->number == b->number && memcmp(a->reply, b->reply, MARGIN_AT) == 0;
+}
+
+static bool says_firm(const struct judging *judging)
+{
+    return get_number(judging->reply + 6, 2) == 1;
 }
 
 static bool margin_is(const uint8_t *answer, uint32_t least, uint32_t e)
@@ -272,7 +292,6 @@ static void fill_row(struct row *row, const struct workload *load)
     struct judging ours = judged_by(fiddlequill_judge, load);
     struct floor_run floor_run = {.bytes = bytes, .n = load->cell.w};
     sampling = (struct sampling){.load = load, .fp = load->fp, .state = 1, .sample = 16};
-    row->cell = load->cell;
     row->zones = load->fp.zones;
     row->way = way_for(guess_fp(row, &sampling));
     struct contender c[] = {{.run = judge_job, .context = &doubling}, {.run = judge_job, .context = &ours},
@@ -375,7 +394,7 @@ static bool firm_with(const struct granting *g, uint32_t j)
     static struct workload load;
     wheel_of_grant(&load, g, j);
     struct judging judging = judged_by(doubling_judge, &load);
-    return get_number(judging.reply + 6, 2) == 1;
+    return says_firm(&judging);
 }
 
 /* Plain doubling must find the same number of slots firm, and one less not. */
@@ -596,6 +615,61 @@ static void fill_count(struct count_row *row)
         row->before = ratio_by_turns(count_job, &all[OURS], &all[BEFORE]);
 }
 
+/* ---- the verdict alone ---- */
+
+struct verdict {
+    const struct workload *load;
+    uint64_t result;
+};
+
+static void quick_job(void *context)
+{
+    struct verdict *v = context;
+    v->result = fiddlequill_quick(v->load->task, sizeof v->load->task, v->load->slots, v->load->slots_len);
+}
+
+/* Judging's bit and no refusal, as plain doubling finds it and as the table was meant. */
+static bool verdict_agrees(const struct verdict *quick, const struct judging *judging, bool firm)
+{
+    struct judging doubling = judged_by(doubling_judge, quick->load);
+    return judging->number == FIDDLEQUILL_OK && same_answer(&doubling, judging) && says_firm(judging) == firm &&
+           quick->result == firm;
+}
+
+static struct quick_times time_quick(const struct workload *load, bool firm)
+{
+    struct verdict quick = {.load = load};
+    struct judging judging = judged_by(fiddlequill_judge, load);
+    struct contender c[] = {{.run = quick_job, .context = &quick}, {.run = judge_job, .context = &judging}};
+    struct quick_times times;
+    take_turns(c, LENGTH(c));
+    times.ratio = ratio_of_rounds(&c[0], &c[1]);
+    times.quick = median(c[0].times);
+    times.judging = median(c[1].times);
+    times.spread = largest_spread(c, LENGTH(c));
+    times.agree = verdict_agrees(&quick, &judging, firm);
+    return times;
+}
+
+static void fill_quick(struct quick_row *row)
+{
+    static struct workload load;
+    make_workload(&load, row->cell);
+    struct judging judging = judged_by(fiddlequill_judge, &load);
+    row->worst = get_number(judging.reply + 8, 4);
+    for (enum table table = 0; table < TABLES; table++) {
+        set_table(&load, table, row->worst);
+        row->on[table] = time_quick(&load, table == JUST_FIRM);
+    }
+}
+
+static void fill_end(struct end_row *row, enum end end)
+{
+    static struct workload load;
+    make_end(&load, row->cell, end);
+    row->times = time_quick(&load, end != ALL_DROP);
+}
+
 /* ---- a whole run ---- */
 
 static const uint32_t wheels[] = {55, 700, 1300, 4096, 16384};
@@ -614,6 +688,8 @@ static const struct cell count_cells[] = {{55, 4, 10},    {55, 4, 125},    {55, 
                                           {1300, 4, 10},  {1300, 4, 125},  {1300, 4, 1024},
                                           {16384, 4, 10}, {16384, 4, 125}, {16384, 4, 1024}};
 
+static const struct cell end_cell = {1300, 4, 125};
+
 static const struct {
     const char *kind;
     uint32_t sixtyfourths;
@@ -627,18 +703,25 @@ _Static_assert(LENGTH(grant_lengths) * LENGTH(strip_counts) * LENGTH(grant_kinds
 _Static_assert(LENGTH(site_cells) <= SITES_MAX, "sites");
 _Static_assert(LENGTH(count_cells) <= COUNTS_MAX, "counts");
 
-static void run_grid(struct results *results)
+/* The cells whose slots fit the wheel. */
+static void lay_grid(struct results *results)
 {
-    static struct workload load;
     const size_t cells = LENGTH(wheels) * LENGTH(slot_counts) * LENGTH(strip_counts);
     for (size_t i = 0; i < cells; i++) {
         struct cell cell = {wheels[i / (LENGTH(strip_counts) * LENGTH(slot_counts))],
                             slot_counts[i / LENGTH(strip_counts) % LENGTH(slot_counts)],
                             strip_counts[i % LENGTH(strip_counts)]};
-        if (cell.slots > cell.w / 2)
-            continue;
-        make_workload(&load, cell);
-        struct row *row = &results->row[results->rows++];
+        if (cell.slots <= cell.w / 2)
+            results->row[results->rows++].cell = cell;
+    }
+}
+
+static void run_grid(struct results *results)
+{
+    static struct workload load;
+    for (size_t i = 0; i < results->rows; i++) {
+        struct row *row = &results->row[i];
+        make_workload(&load, row->cell);
         fill_row(row, &load);
         fill_before(row, &load);
     }
@@ -708,6 +791,19 @@ static void run_counts(struct results *results)
     }
 }
 
+static void run_quicks(struct results *results)
+{
+    results->quicks = results->rows;
+    for (size_t i = 0; i < results->quicks; i++) {
+        results->quick[i].cell = results->row[i].cell;
+        fill_quick(&results->quick[i]);
+    }
+    for (enum end end = 0; end < ENDS; end++) {
+        results->end[end].cell = end_cell;
+        fill_end(&results->end[end], end);
+    }
+}
+
 static int write_results(const char *folder, const char *name, void (*print)(FILE *, const struct results *),
                          const struct results *results)
 {
@@ -728,12 +824,14 @@ static int run(const char *folder)
     static struct results results;
     find_slot_bytes();
     results.before_slot_bytes = older.slot_bytes;
+    lay_grid(&results);
     run_grid(&results);
     run_growth(&results);
     run_boards(&results);
     run_grants(&results);
     run_sites(&results);
     run_counts(&results);
+    run_quicks(&results);
     print_report(stdout, &results);
     if (write_results(folder, "RESULTS.md", print_report, &results) != 0 ||
         write_results(folder, "results.csv", print_csv, &results) != 0)
@@ -760,11 +858,15 @@ static int once(struct cell cell)
     make_site(&site, cell);
     struct siting whole = {.site = &site, .judge = fiddlequill_site};
     site_job(&whole);
+    const uint32_t worst = get_number(ours.reply + 8, 4);
+    struct verdict quick = {.load = &load};
+    set_table(&load, JUST_FIRM, worst);
+    quick_job(&quick);
     printf("judged: worst %" PRIu32 "; counted there: %" PRIu32 "; granted: %" PRIu32 "; the last sign: worst %" PRIu32
-           "\n",
-           get_number(ours.reply + 8, 4), fiddlequill_value(count), fiddlequill_value(grant.result),
-           get_number(whole.reply + (SIGNS - 1) * FIDDLEQUILL_ANSWER_BYTES + 8, 4));
-    return same_answer(&doubling, &ours) && margin_agrees(&ours) ? 0 : 1;
+           "; so many allowed: firm %" PRIu32 "\n",
+           worst, fiddlequill_value(count), fiddlequill_value(grant.result),
+           get_number(whole.reply + (SIGNS - 1) * FIDDLEQUILL_ANSWER_BYTES + 8, 4), fiddlequill_value(quick.result));
+    return same_answer(&doubling, &ours) && margin_agrees(&ours) && quick.result == 1 ? 0 : 1;
 }
 
 int main(int argc, char **argv)

@@ -7,6 +7,26 @@
 #define BENCH_FLAGS "unknown"
 #endif
 
+static int compare_numbers(const void *a, const void *b)
+{
+    double x = *(const double *)a, y = *(const double *)b;
+    return (x > y) - (x < y);
+}
+
+double middle(double *numbers, size_t n)
+{
+    qsort(numbers, n, sizeof *numbers, compare_numbers);
+    return (numbers[(n - 1) / 2] + numbers[n / 2]) / 2;
+}
+
+static bool all_agree(const struct quick_row *row)
+{
+    bool agree = true;
+    for (size_t i = 0; i < TABLES; i++)
+        agree &= row->on[i].agree;
+    return agree;
+}
+
 size_t differences(const struct results *results)
 {
     size_t found = 0;
@@ -20,6 +40,10 @@ size_t differences(const struct results *results)
         found += !results->site[i].agree;
     for (size_t i = 0; i < results->counts; i++)
         found += !results->count[i].agree;
+    for (size_t i = 0; i < results->quicks; i++)
+        found += !all_agree(&results->quick[i]);
+    for (size_t i = 0; i < ENDS; i++)
+        found += !results->end[i].times.agree;
     return found;
 }
 
@@ -30,30 +54,30 @@ static bool same_cell(struct cell a, struct cell b)
     return a.w == b.w && a.slots == b.slots && a.k == b.k;
 }
 
-static void no_such_cell(void)
+/* The row of a cell among n rows of `bytes` bytes each, of any kind that begins with its cell. */
+static const void *find_row(const void *rows, size_t n, size_t bytes, struct cell cell)
 {
+    const char *row = rows;
+    for (size_t i = 0; i < n; i++, row += bytes)
+        if (same_cell(*(const struct cell *)(const void *)row, cell))
+            return row;
     fprintf(stderr, "bench: no such cell\n");
     exit(2);
 }
 
 static const struct row *row_of(const struct results *results, struct cell cell)
 {
-    size_t i = 0;
-    while (i < results->rows && !same_cell(results->row[i].cell, cell))
-        i++;
-    if (i == results->rows)
-        no_such_cell();
-    return &results->row[i];
+    return find_row(results->row, results->rows, sizeof *results->row, cell);
 }
 
 static const struct board_row *board_of(const struct results *results, struct cell cell)
 {
-    size_t i = 0;
-    while (i < results->boards && !same_cell(results->board[i].cell, cell))
-        i++;
-    if (i == results->boards)
-        no_such_cell();
-    return &results->board[i];
+    return find_row(results->board, results->boards, sizeof *results->board, cell);
+}
+
+static const struct quick_row *quick_of(const struct results *results, struct cell cell)
+{
+    return find_row(results->quick, results->quicks, sizeof *results->quick, cell);
 }
 
 static double fp_ratio(const struct row *row)
@@ -156,6 +180,30 @@ static double judging_ratio(const struct count_row *row)
     return row->by[OURS].all / row->judging;
 }
 
+struct summary {
+    double median, most;
+};
+
+/* Quick ÷ judging over the tables from one kind to another, of all cells. */
+static struct summary sum_up(const struct results *results, enum table from, enum table to)
+{
+    double ratios[ROWS_MAX * TABLES] = {0};
+    size_t n = 0;
+    for (size_t i = 0; i < results->quicks; i++)
+        for (enum table table = from; table <= to; table++)
+            ratios[n++] = results->quick[i].on[table].ratio;
+    double median = middle(ratios, n);
+    return (struct summary){median, ratios[n - 1]};
+}
+
+static double most_of_tables(const struct quick_row *row)
+{
+    double most = 0;
+    for (size_t i = 0; i < TABLES; i++)
+        most = row->on[i].ratio > most ? row->on[i].ratio : most;
+    return most;
+}
+
 static void print_goal(FILE *out, const char *what, bool at_least, double goal, double measured)
 {
     bool reached = at_least ? measured >= goal : measured <= goal;
@@ -212,6 +260,19 @@ static void print_count_goals(FILE *out, const struct results *results)
     }
 }
 
+/* Never much longer than judging; shorter on most tables that aren't firm, and for few strips on a long wheel. */
+static void print_quick_goals(FILE *out, const struct results *results)
+{
+    static const struct cell long_wheels[] = {{16384, 1, 10}, {16384, 4, 10}};
+    const struct summary firm = sum_up(results, JUST_FIRM, JUST_FIRM), others = sum_up(results, ONE_LESS, NO_DROP);
+    print_goal(out, "quick ÷ judging, the most of all cells, firm", false, 1.15, firm.most);
+    print_goal(out, "quick ÷ judging, the most of all cells, not firm", false, 1.15, others.most);
+    print_goal(out, "quick ÷ judging, the median over tables that aren't firm", false, 0.5, others.median);
+    for (size_t i = 0; i < sizeof long_wheels / sizeof *long_wheels; i++)
+        print_goal_at(out, "quick ÷ judging", &long_wheels[i], ", the most of its tables", false, 0.7,
+                      most_of_tables(quick_of(results, long_wheels[i])));
+}
+
 static const struct {
     struct cell cell;
     double least;
@@ -239,6 +300,7 @@ static void print_goals(FILE *out, const struct results *r)
     print_goal(out, "a grant of up to 64 slots, in judgements, the most", false, 7.5, most_judgements(r));
     print_site_goals(out, r);
     print_count_goals(out, r);
+    print_quick_goals(out, r);
 }
 
 /* ---- the report ---- */
@@ -311,6 +373,11 @@ static void print_cell(FILE *out, const struct cell *cell)
     fprintf(out, "| %" PRIu32 " / %" PRIu32 " / %" PRIu32 " ", cell->w, cell->slots, cell->k);
 }
 
+static void print_cell_columns(FILE *out, const struct cell *cell)
+{
+    fprintf(out, "| %" PRIu32 " | %" PRIu32 " | %" PRIu32 " ", cell->w, cell->slots, cell->k);
+}
+
 static void print_growth(FILE *out, const struct results *results)
 {
     fprintf(out, "\n## Growth of ours\n\n| growth in | w / slots / k | against | time ratio |\n|---|---|---|---:|\n");
@@ -372,8 +439,8 @@ static void print_sites(FILE *out, const struct results *results)
                  "|---:|---:|---:|---:|---:|---:|---:|---:|---|\n");
     for (size_t i = 0; i < results->sites; i++) {
         const struct site_row *row = &results->site[i];
-        fprintf(out, "| %" PRIu32 " | %" PRIu32 " | %" PRIu32 " | %.2f ", row->cell.w, row->cell.slots, row->cell.k,
-                site_ratio(row));
+        print_cell_columns(out, &row->cell);
+        print_column(out, site_ratio(row));
         print_column(out, row->before);
         fprintf(out, "| %.2f | %.2f | %.2f | %s |\n", row->site / 1e3, row->singles / 1e3, row->spread,
                 row->agree ? "all equal" : "DIFFERENT");
@@ -396,11 +463,89 @@ static void print_counts(FILE *out, const struct results *results)
                                   by_k_ratio(row, BEFORE, OURS), by_k_ratio(row, LOOP, OURS), judging_ratio(row),
                                   row->by[LOOP].all / 1e3, row->by[BEFORE].all / 1e3, row->by[OURS].all / 1e3,
                                   row->by[OURS].one / 1e3, row->judging / 1e3, row->spread};
-        fprintf(out, "| %" PRIu32 " | %" PRIu32 " | %" PRIu32 " ", row->cell.w, row->cell.slots, row->cell.k);
+        print_cell_columns(out, &row->cell);
         for (size_t j = 0; j < sizeof columns / sizeof *columns; j++)
             print_column(out, columns[j]);
         fprintf(out, "| %s |\n", row->agree ? "all equal" : "DIFFERENT");
     }
+}
+
+static const char *const table_names[TABLES] = {[JUST_FIRM] = "just firm", [ONE_LESS] = "one less",
+                                                [THREE_QUARTERS] = "three quarters", [HALF] = "half",
+                                                [QUARTER] = "quarter", [NO_DROP] = "none"};
+static const char *const end_names[ENDS] = {
+    [NONE_WANTED] = "m is 0", [NONE_DROPS] = "e is the least supply", [ALL_DROP] = "e is above D"};
+
+/* How many of a cell's tables differ: shares of a small worst count come to the same number of drops. */
+static size_t different_tables(const struct quick_row *row)
+{
+    size_t different = 0;
+    for (enum table table = 0; table < TABLES; table++) {
+        bool first = true;
+        for (enum table earlier = 0; earlier < table; earlier++)
+            first &= drops_allowed(earlier, row->worst) != drops_allowed(table, row->worst);
+        different += first;
+    }
+    return different;
+}
+
+static void print_quick_words(FILE *out)
+{
+    fprintf(out, "\n## The verdict alone\n\nQuick ÷ judging, by turns on the same table, as while a slider is dragged: "
+                 "the tasks of Judging with m moved, so that\nthe drops allowed are the worst count (just firm: the "
+                 "whole search must be made), one less, and three quarters, half\nand a quarter of it, rounded down, and none; "
+                 "these five aren't firm. Tables says how many of the six differ: where\nthe worst count is small, "
+                 "some are the same. Each verdict is compared with judging's and doubling's.\n\n");
+}
+
+static void print_quick_row(FILE *out, const struct quick_row *row)
+{
+    const struct quick_times *firm = &row->on[JUST_FIRM], *less = &row->on[ONE_LESS];
+    const double times[] = {firm->quick, firm->judging, less->quick, less->judging};
+    double spread = 0;
+    print_cell_columns(out, &row->cell);
+    fprintf(out, "| %" PRIu32 " | %zu ", row->worst, different_tables(row));
+    for (size_t i = 0; i < TABLES; i++) {
+        print_column(out, row->on[i].ratio);
+        spread = row->on[i].spread > spread ? row->on[i].spread : spread;
+    }
+    for (size_t i = 0; i < sizeof times / sizeof *times; i++)
+        print_column(out, times[i] / 1e3);
+    fprintf(out, "| %.2f | %s |\n", spread, all_agree(row) ? "all equal" : "DIFFERENT");
+}
+
+static void print_summary(FILE *out, const char *name, struct summary summary)
+{
+    fprintf(out, "| %s | %.2f | %.2f |\n", name, summary.median, summary.most);
+}
+
+static void print_ends(FILE *out, const struct results *results)
+{
+    fprintf(out, "\nWhere a slider ends, no search is needed:\n\n| w | slots | k | end | quick ÷ judging | quick (µs) "
+                 "| judging (µs) | spread | answers |\n|---:|---:|---:|---|---:|---:|---:|---:|---|\n");
+    for (size_t i = 0; i < ENDS; i++) {
+        const struct quick_times *times = &results->end[i].times;
+        print_cell_columns(out, &results->end[i].cell);
+        fprintf(out, "| %s | %.2f | %.2f | %.2f | %.2f | %s |\n", end_names[i], times->ratio, times->quick / 1e3,
+                times->judging / 1e3, times->spread, times->agree ? "equal" : "DIFFERENT");
+    }
+}
+
+static void print_quicks(FILE *out, const struct results *results)
+{
+    print_quick_words(out);
+    fprintf(out, "| w | slots | k | worst | tables ");
+    for (size_t i = 0; i < TABLES; i++)
+        fprintf(out, "| %s ", table_names[i]);
+    fprintf(out, "| just firm: quick (µs) | judging (µs) | one less: quick (µs) | judging (µs) | spread | answers |\n"
+                 "|---:|---:|---:|---:|---:|---:|---:|---:|---:|---:|---:|---:|---:|---:|---:|---|\n");
+    for (size_t i = 0; i < results->quicks; i++)
+        print_quick_row(out, &results->quick[i]);
+    fprintf(out, "\n| tables of all cells | median of quick ÷ judging | most |\n|---|---:|---:|\n");
+    for (enum table table = 0; table < TABLES; table++)
+        print_summary(out, table_names[table], sum_up(results, table, table));
+    print_summary(out, "all that aren't firm", sum_up(results, ONE_LESS, NO_DROP));
+    print_ends(out, results);
 }
 
 static void print_conditions(FILE *out, const struct results *results)
@@ -414,7 +559,8 @@ static void print_conditions(FILE *out, const struct results *results)
         fprintf(out, "- before: %s; it reads slot records of %zu bytes\n",
                 before != NULL ? before : "as it was built", results->before_slot_bytes);
     fprintf(out, "- runs: medians of %d rounds of at least %.0f µs of processor time each, taking turns; ours ÷ "
-                 "before and growth are\n  medians of the rounds' ratios\n", ROUNDS, batch_ns / 1e3);
+                 "before, quick ÷ judging\n  and growth are medians of the rounds' ratios; the rounds begin at four "
+                 "places of the stack in turn\n", ROUNDS, batch_ns / 1e3);
 }
 
 /* Ratios stand before times in every table: they are what carries over to another machine. */
@@ -432,9 +578,11 @@ void print_report(FILE *out, const struct results *results)
     print_grants(out, results);
     print_sites(out, results);
     print_counts(out, results);
+    print_quicks(out, results);
     print_conditions(out, results);
     fprintf(out, "\nbench: %zu cases, %zu differences\n",
-            results->rows + results->boards + results->grants + results->sites + results->counts,
+            results->rows + results->boards + results->grants + results->sites + results->counts + results->quicks +
+                ENDS,
             differences(results));
 }
 
@@ -445,7 +593,8 @@ enum column {
     OURS_OVER_DOUBLING, SPREAD, AGAINST_W, AGAINST_SLOTS, AGAINST_K, GROWTH, JUDGEMENTS, SITE_NS, SINGLES_NS,
     SITE_OVER_SINGLES, LOOP_NS, LOOP_ONE_NS, LOOP_BY_K_NS, BEFORE_NS, BEFORE_ONE_NS, BEFORE_BY_K_NS, OURS_ONE_NS,
     OURS_BY_K_NS, JUDGING_NS, LOOP_OVER_BEFORE, LOOP_OVER_OURS, BY_K_BEFORE_OVER_OURS, BY_K_LOOP_OVER_OURS,
-    OURS_OVER_JUDGING, OURS_OVER_BEFORE, ALONE_NS, BOARD_OVER_ALONE, OTHER_RECORD_NS, COLUMNS
+    OURS_OVER_JUDGING, OURS_OVER_BEFORE, ALONE_NS, BOARD_OVER_ALONE, OTHER_RECORD_NS, WORST, DROPS_ALLOWED,
+    QUICK_NS, QUICK_OVER_JUDGING, COLUMNS
 };
 
 static const struct {
@@ -491,6 +640,10 @@ static const struct {
     [ALONE_NS] = {"alone_ns", 1},
     [BOARD_OVER_ALONE] = {"board_over_alone", 4},
     [OTHER_RECORD_NS] = {"other_record_ns", 3},
+    [WORST] = {"worst", 0},
+    [DROPS_ALLOWED] = {"drops_allowed", 0},
+    [QUICK_NS] = {"quick_ns", 1},
+    [QUICK_OVER_JUDGING] = {"quick_over_judging", 4},
 };
 
 struct line {
@@ -586,6 +739,28 @@ static void print_csv_counts(FILE *out, const struct results *results)
     }
 }
 
+/* The worst count and the drops allowed are 0 where they aren't told. */
+static void print_csv_quick(FILE *out, const char *name, const struct cell *cell, uint32_t worst, uint32_t allowed,
+                            const struct quick_times *q)
+{
+    fprintf(out, "quick: %s", name);
+    print_line(out, cell, (struct line){
+               .at = {[WORST] = worst, [DROPS_ALLOWED] = allowed, [SPREAD] = q->spread, [QUICK_NS] = q->quick,
+                      [JUDGING_NS] = q->judging, [QUICK_OVER_JUDGING] = q->ratio}});
+}
+
+static void print_csv_quicks(FILE *out, const struct results *results)
+{
+    for (size_t i = 0; i < results->quicks; i++) {
+        const struct quick_row *row = &results->quick[i];
+        for (enum table table = 0; table < TABLES; table++)
+            print_csv_quick(out, table_names[table], &row->cell, row->worst, drops_allowed(table, row->worst),
+                            &row->on[table]);
+    }
+    for (size_t i = 0; i < ENDS; i++)
+        print_csv_quick(out, end_names[i], &results->end[i].cell, 0, 0, &results->end[i].times);
+}
+
 void print_csv(FILE *out, const struct results *results)
 {
     fprintf(out, "case");
@@ -597,4 +772,5 @@ void print_csv(FILE *out, const struct results *results)
     print_csv_grants(out, results);
     print_csv_sites(out, results);
     print_csv_counts(out, results);
+    print_csv_quicks(out, results);
 }

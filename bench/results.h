@@ -8,7 +8,7 @@
 #include <stdio.h>
 
 enum {
-    ROUNDS = 15,
+    ROUNDS = 16,
     GRANT_SLOTS = 64,
     ROWS_MAX = 60,
     GROWTHS_MAX = 32,
@@ -91,8 +91,28 @@ struct count_row {
     bool agree;
 };
 
+/* A verdict alone against judging the same table: the median of the rounds' ratios, then ns. */
+struct quick_times {
+    double ratio, quick, judging;
+    double spread;
+    bool agree;
+};
+
+/* Verdicts on the tables of a cell. */
+struct quick_row {
+    struct cell cell;
+    uint32_t worst;
+    struct quick_times on[TABLES];
+};
+
+/* A verdict that needs no search. */
+struct end_row {
+    struct cell cell;
+    struct quick_times times;
+};
+
 struct results {
-    size_t rows, growths, boards, grants, sites, counts;
+    size_t rows, growths, boards, grants, sites, counts, quicks;
     size_t before_slot_bytes; /* of an older archive's slot record; 0 where none was given */
     struct row row[ROWS_MAX];
     struct growth growth[GROWTHS_MAX];
@@ -100,7 +120,12 @@ struct results {
     struct grant_row grant[GRANTS_MAX];
     struct site_row site[SITES_MAX];
     struct count_row count[COUNTS_MAX];
+    struct quick_row quick[ROWS_MAX];
+    struct end_row end[ENDS];
 };
+
+/* Sorts the numbers, at least one, and gives their median. */
+double middle(double *numbers, size_t n);
 
 /* Cases whose answers differ. */
 size_t differences(const struct results *results);

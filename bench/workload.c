@@ -89,6 +89,29 @@ void make_workload(struct workload *load, struct cell cell)
     open_plan(load);
 }
 
+uint32_t drops_allowed(enum table table, uint32_t worst)
+{
+    static const uint32_t quarters[TABLES] = {[JUST_FIRM] = 4, [THREE_QUARTERS] = 3, [HALF] = 2, [QUARTER] = 1,
+                                             [NO_DROP] = 0};
+    return table == ONE_LESS ? worst - 1 : worst * quarters[table] / 4;
+}
+
+void set_table(struct workload *load, enum table table, uint32_t worst)
+{
+    put_task(load, load->fp.plan.e, load->fp.plan.h, load->cell.k - drops_allowed(table, worst));
+}
+
+/* The least supply is the largest need that drops nothing. */
+void make_end(struct workload *load, struct cell cell, enum end end)
+{
+    const struct plan *plan = &load->fp.plan;
+    uint32_t least, largest;
+    make_workload(load, cell);
+    fp_supplies(&load->fp, &least, &largest);
+    const uint32_t needs[ENDS] = {[NONE_WANTED] = plan->e, [NONE_DROPS] = least, [ALL_DROP] = plan->D + 1};
+    put_task(load, needs[end], plan->h, end == NONE_WANTED ? 0 : plan->m);
+}
+
 static uint32_t ticks_outside(const struct plan *plan)
 {
     uint32_t ticks = plan->w;

@@ -30,6 +30,18 @@ struct site {
     uint32_t least; /* supply at any tick, the same for all signs */
 };
 
+/*
+ * Tables on which a verdict is asked, by the drops k - m that they allow: the worst count itself, which is firm, so the
+ * whole search must be made; and less, which isn't firm where the worst count is above 0.
+ */
+enum table { JUST_FIRM, ONE_LESS, THREE_QUARTERS, HALF, QUARTER, NO_DROP, TABLES };
+
+/* Where a slider ends, and no search is needed: m is 0, no strip drops, all of them do. */
+enum end { NONE_WANTED, NONE_DROPS, ALL_DROP, ENDS };
+
+/* Rounded down; one less than a worst count of 0 is no number of drops, and the table is refused. */
+uint32_t drops_allowed(enum table table, uint32_t worst);
+
 /* The next number of a fixed row of random ones. */
 uint64_t draw(uint64_t *state);
 
@@ -42,6 +54,10 @@ void put_task(struct workload *load, uint32_t e, uint32_t h, uint32_t m);
 
 /* The task of a cell; exits when the baselines' reader refuses it. */
 void make_workload(struct workload *load, struct cell cell);
+/* The same task with another m: its table then allows the drops that go by the worst count of the task. */
+void set_table(struct workload *load, enum table table, uint32_t worst);
+/* The task of a cell with one number moved to an end. */
+void make_end(struct workload *load, struct cell cell, enum end end);
 /* The same task on a board of FIDDLEQUILL_SLOTS_MAX records, where other owners have slots in all the gaps. */
 void make_board(struct workload *board, const struct workload *own);
 /* A site of tasks around the cell's. */

@@ -2,57 +2,8 @@
 # What the desk says of bad sites, of an empty one, of tasks whose board is refused, of margins, and of shared boards.
 # Usage: desk-test.sh DESK RECORDS SITE
 set -u
-desk=$1 records=$2 site=$3
-folder=$(mktemp -d) || exit 1
-trap 'rm -rf "$folder"' EXIT
-tried=0 failed=0
-
-# complains TEXT: the desk must fail on the folder and say TEXT.
-complains() {
-    tried=$((tried + 1))
-    if "$desk" "$folder" >/dev/null 2>"$folder/said"; then
-        echo "desk-test: FAILED: taken, without \"$1\""
-        failed=$((failed + 1))
-    elif ! grep -qF -- "$1" "$folder/said"; then
-        echo "desk-test: FAILED: said \"$(cat "$folder/said")\", not \"$1\""
-        failed=$((failed + 1))
-    fi
-}
-
-# silent: the desk must end well on the folder and say nothing at all.
-silent() {
-    tried=$((tried + 1))
-    if ! "$desk" "$folder" >"$folder/said" 2>&1; then
-        echo "desk-test: FAILED: refused an empty site, saying \"$(cat "$folder/said")\""
-        failed=$((failed + 1))
-    elif [ -s "$folder/said" ]; then
-        echo "desk-test: FAILED: said \"$(cat "$folder/said")\" of an empty site"
-        failed=$((failed + 1))
-    fi
-}
-
-# tables TASKS SLOTS: the folder becomes the site with these lines, \n between them, in its tables.
-tables() {
-    printf 'id,w,e,D,h,m,k,first,count\n%b\n' "$1" >"$folder/tasks.csv"
-    printf 'start,end,owner\n%b\n' "$2" >"$folder/slots.csv"
-    "$records" make "$folder" 2>/dev/null
-}
-
-# prints NAME TEXT: of the folder the desk must print TEXT, in which the folder's name is left out, say nothing else
-# and end well.
-prints() {
-    tried=$((tried + 1))
-    if ! "$desk" "$folder" >"$folder/said" 2>&1; then
-        echo "desk-test: FAILED: $1: refused, saying \"$(cat "$folder/said")\""
-        failed=$((failed + 1))
-    elif [ "$(sed "s|$folder/||g" "$folder/said")" != "$2" ]; then
-        echo "desk-test: FAILED: $1: said \"$(cat "$folder/said")\", not \"$2\""
-        failed=$((failed + 1))
-    fi
-}
-
-# says NAME TASKS SLOTS TEXT: both of these.
-says() { tables "$2" "$3"; prints "$1" "$4"; }
+program=$1 records=$2 site=$3
+. "$(dirname "$0")/tries.sh"
 
 # spare RECORD PLACE BYTE: the spare byte at PLACE, 0 or 1, of a record of slots.bin becomes BYTE, in octal.
 spare() { printf "\\$3" | dd of="$folder/slots.bin" bs=1 seek=$((12 * $1 + 10 + $2)) conv=notrunc 2>/dev/null; }
@@ -75,19 +26,11 @@ needs() {
 # eights OWNER..: that slot for each of them, as lines of a table.
 eights() { for owner in "$@"; do echo "0,8,$owner"; done; }
 
-complains 'tasks.bin: No such file'
-cp "$site/tasks.bin" "$folder"
-complains 'slots.bin: No such file'
-cp "$site/slots.bin" "$folder"
-printf x >>"$folder/slots.bin"
-complains "slots.bin: 37 bytes aren't whole records of 12"
-cp "$site/slots.bin" "$folder"
-printf x >>"$folder/tasks.bin"
-complains "tasks.bin: 97 bytes aren't whole records of 32"
+complains_of_files
 : >"$folder/tasks.bin"
-silent
+prints 'an empty site' ''
 : >"$folder/slots.bin"
-silent
+prints 'an empty site without slots' ''
 printf x >"$folder/slots.bin"
 complains "slots.bin: 1 bytes aren't whole records of 12"
 
@@ -317,5 +260,4 @@ says 'one free slot' '7,2,1,1,1,1,1,0,1' '1,2,5' \
   of the board's slots it has 0 of 1, of the ticks 0 of 2
   with 1 free slot of 1 tick: no choice of the free slots makes the task firm"
 
-echo "desk-test: $tried cases, $failed failed"
-[ "$failed" -eq 0 ]
+ends

@@ -302,14 +302,6 @@ static int tell_one(const struct site *site, const uint8_t *record, const uint8_
     return 0;
 }
 
-static int whole_records(const struct file *file, size_t bytes)
-{
-    if (file->len % bytes == 0)
-        return 0;
-    fprintf(stderr, "%s: %zu bytes aren't whole records of %zu\n", file->path, file->len, bytes);
-    return -1;
-}
-
 /* Judges all tasks at once, then goes from answer to answer. */
 static int judge_into(const struct site *site, uint8_t *reply, size_t reply_len)
 {
@@ -326,12 +318,8 @@ static int judge_into(const struct site *site, uint8_t *reply, size_t reply_len)
     return status;
 }
 
-/* The call would refuse a wrong length, too, but not say which file has it. */
 static int judge_site(const struct site *site)
 {
-    if (whole_records(&site->tasks, FIDDLEQUILL_TASK_BYTES) != 0 ||
-        whole_records(&site->slots, FIDDLEQUILL_SLOT_BYTES) != 0)
-        return -1;
     size_t reply_len = site->tasks.len / FIDDLEQUILL_TASK_BYTES * FIDDLEQUILL_ANSWER_BYTES;
     uint8_t *reply = reply_len > 0 ? malloc(reply_len) : NULL; /* NULL is fine where no task is to be answered */
     if (reply == NULL && reply_len > 0) {
@@ -351,7 +339,8 @@ int main(int argc, char **argv)
         return 2;
     }
     int status = -1;
-    if (read_file(&site.tasks, argv[1], "tasks.bin") == 0 && read_file(&site.slots, argv[1], "slots.bin") == 0)
+    if (read_records(&site.tasks, argv[1], "tasks.bin", FIDDLEQUILL_TASK_BYTES) == 0 &&
+        read_records(&site.slots, argv[1], "slots.bin", FIDDLEQUILL_SLOT_BYTES) == 0)
         status = judge_site(&site);
     free(site.tasks.bytes);
     free(site.slots.bytes);

@@ -238,12 +238,51 @@ static void lower_by_thirds(struct least *least, const struct wheel *wheel, cons
     }
 }
 
+/* Rule 8: which of the strips' offsets that lead to the start of a run have too many drops. */
+static bool run_shows(struct late *late, const bool *too_many, uint32_t w, const struct strips *strips, uint32_t start)
+{
+    const uint32_t back = w - (uint32_t)(strips->h % w);
+    uint32_t tick = start;
+    bool shows = false;
+    for (uint32_t n = 0; n < strips->k; n++) {
+        if (too_many[tick]) {
+            late->least_n = n < late->least_n ? n : late->least_n;
+            late->most_n = n > late->most_n ? n : late->most_n;
+            shows = true;
+        }
+        tick = (tick + back) % w;
+    }
+    return shows;
+}
+
+/* From the drops of one turn's half ticks, and whether too many strips drop from half a tick after each tick. */
+static struct late late_of(const uint8_t *dropped, const bool *too_many, uint32_t w, const struct strips *strips,
+                           bool firm)
+{
+    struct late late = {.least_n = UINT32_MAX};
+    for (uint32_t tick = 0; tick < w; tick++) {
+        const bool here = dropped[2 * tick + 1], before = dropped[2 * (tick > 0 ? tick : w) - 1];
+        late.ticks += here;
+        late.whole += dropped[2 * tick];
+        late.over_end |= tick == 0 && here && before;
+        if (here && !before) {
+            if (!firm && run_shows(&late, too_many, w, strips, tick)) {
+                late.last_showing = late.runs;
+                late.showing++;
+            }
+            late.runs++;
+        }
+    }
+    return late;
+}
+
 struct verdict verdict_of(const struct wheel *wheel, const struct strips *strips)
 {
     static const uint64_t q = 2;
     struct verdict verdict = {.least = {.sixths = INT64_MAX}};
     struct cells cells;
     uint8_t dropped[2 * WHEEL_MAX];
+    bool too_many[WHEEL_MAX];
     cut(&cells, wheel, q);
     for (uint64_t t = 0; t < cells.turn; t++) {
         uint64_t got = supply(&cells, strips->D, t);
@@ -253,19 +292,54 @@ struct verdict verdict_of(const struct wheel *wheel, const struct strips *strips
     }
     for (uint32_t t = 0; t < cells.turn; t++) {
         uint32_t drops = drops_from(dropped, (uint32_t)cells.turn, strips, t);
+        too_many[t / q] = drops > strips->k - strips->m; /* what the odd half tick has stays */
         if (drops > verdict.worst) {
             verdict.worst = drops;
             verdict.offset = t;
         }
     }
     verdict.firm = verdict.worst <= strips->k - strips->m;
+    verdict.late = late_of(dropped, too_many, wheel->w, strips, verdict.firm);
     lower_by_thirds(&verdict.least, wheel, strips);
     return verdict;
 }
 
 /* ---- the calls ---- */
 
-uint32_t definition_judge(const uint8_t *task_bytes, size_t task_len, const uint8_t *slots, size_t slots_len,
+static uint64_t packed(uint32_t number, uint64_t value)
+{
+    return (uint64_t)number * 4294967296u + value;
+}
+
+/* All refusals of a task but the reply's: those of the verdict alone. */
+static uint32_t refusal_without_reply(const uint8_t *task, size_t task_len, const uint8_t *slots, size_t slots_len)
+{
+    uint32_t number = refusal_of_sizes(task_len, slots_len);
+    return number != 0 ? number : refusal_of_task(task, slots, slots_len);
+}
+
+/* The wheel and the strips of a task that isn't refused. */
+static struct strips lay_out(struct wheel *wheel, const uint8_t *bytes, const uint8_t *slots)
+{
+    struct task task = task_of_bytes(bytes);
+    wheel_of_task(wheel, &task, slots);
+    return strips_of_task(&task);
+}
+
+uint64_t definition_quick(const uint8_t *task, size_t task_len, const uint8_t *slots, size_t slots_len,
+                          struct verdict *verdict)
+{
+    uint32_t number = refusal_without_reply(task, task_len, slots, slots_len);
+    *verdict = (struct verdict){0};
+    if (number != 0)
+        return packed(number, 0);
+    struct wheel wheel;
+    struct strips strips = lay_out(&wheel, task, slots);
+    *verdict = verdict_of(&wheel, &strips);
+    return packed(0, verdict->firm);
+}
+
+uint32_t definition_judge(const uint8_t *task, size_t task_len, const uint8_t *slots, size_t slots_len,
                           uint8_t *reply, size_t reply_len, struct verdict *verdict)
 {
     uint32_t number = refusal_of_sizes(task_len, slots_len);
@@ -274,15 +348,8 @@ uint32_t definition_judge(const uint8_t *task_bytes, size_t task_len, const uint
         return number;
     if (reply_len < ANSWER_BYTES)
         return 2;
-    struct task task = task_of_bytes(task_bytes);
-    number = refusal_of_task(task_bytes, slots, slots_len);
-    if (number == 0) {
-        struct strips strips = strips_of_task(&task);
-        struct wheel wheel;
-        wheel_of_task(&wheel, &task, slots);
-        *verdict = verdict_of(&wheel, &strips);
-    }
-    put_number(reply, task.id, 4);
+    number = (uint32_t)(definition_quick(task, task_len, slots, slots_len, verdict) >> 32);
+    put_number(reply, task_of_bytes(task).id, 4);
     put_number(reply + 4, number, 2);
     put_number(reply + 6, verdict->firm, 2);
     put_number(reply + 8, verdict->worst, 4);
@@ -306,11 +373,6 @@ uint32_t definition_site(const uint8_t *tasks, size_t tasks_len, const uint8_t *
     return 0;
 }
 
-static uint64_t packed(uint32_t number, uint64_t value)
-{
-    return (uint64_t)number * 4294967296u + value;
-}
-
 uint64_t definition_which_slot(const uint8_t *task_bytes, size_t task_len, const uint8_t *slots, size_t slots_len)
 {
     uint32_t number = refusal_of_sizes(task_len, slots_len);
@@ -325,49 +387,42 @@ uint64_t definition_which_slot(const uint8_t *task_bytes, size_t task_len, const
 static uint32_t refusal_at(const uint8_t *task, size_t task_len, const uint8_t *slots, size_t slots_len,
                            uint64_t offset)
 {
-    uint32_t number = refusal_of_sizes(task_len, slots_len);
-    if (number == 0)
-        number = refusal_of_task(task, slots, slots_len);
+    uint32_t number = refusal_without_reply(task, task_len, slots, slots_len);
     if (number == 0 && offset >= 2 * (uint64_t)task_of_bytes(task).w)
         number = 11;
     return number;
 }
 
-uint64_t definition_count(const uint8_t *task_bytes, size_t task_len, const uint8_t *slots, size_t slots_len,
+uint64_t definition_count(const uint8_t *task, size_t task_len, const uint8_t *slots, size_t slots_len,
                           uint64_t offset)
 {
-    uint32_t number = refusal_at(task_bytes, task_len, slots, slots_len, offset);
+    uint32_t number = refusal_at(task, task_len, slots, slots_len, offset);
     if (number != 0)
         return packed(number, 0);
-    struct task task = task_of_bytes(task_bytes);
-    struct strips strips = strips_of_task(&task);
     struct wheel wheel;
-    wheel_of_task(&wheel, &task, slots);
+    struct strips strips = lay_out(&wheel, task, slots);
     return packed(0, count_at(&wheel, &strips, 2, offset));
 }
 
-uint64_t definition_supply(const uint8_t *task_bytes, size_t task_len, const uint8_t *slots, size_t slots_len,
+uint64_t definition_supply(const uint8_t *task, size_t task_len, const uint8_t *slots, size_t slots_len,
                            uint64_t offset)
 {
-    uint32_t number = refusal_at(task_bytes, task_len, slots, slots_len, offset);
+    uint32_t number = refusal_at(task, task_len, slots, slots_len, offset);
     if (number != 0)
         return packed(number, 0);
-    struct task task = task_of_bytes(task_bytes);
     struct wheel wheel;
-    wheel_of_task(&wheel, &task, slots);
-    return packed(0, supply_at(&wheel, task.D, 2, offset));
+    struct strips strips = lay_out(&wheel, task, slots);
+    return packed(0, supply_at(&wheel, strips.D, 2, offset));
 }
 
-uint64_t definition_margin(const uint8_t *task_bytes, size_t task_len, const uint8_t *slots, size_t slots_len,
+uint64_t definition_margin(const uint8_t *task, size_t task_len, const uint8_t *slots, size_t slots_len,
                            uint64_t offset)
 {
-    uint32_t number = refusal_at(task_bytes, task_len, slots, slots_len, offset);
+    uint32_t number = refusal_at(task, task_len, slots, slots_len, offset);
     if (number != 0)
         return packed(number, 0);
-    struct task task = task_of_bytes(task_bytes);
-    struct strips strips = strips_of_task(&task);
     struct wheel wheel;
-    wheel_of_task(&wheel, &task, slots);
+    struct strips strips = lay_out(&wheel, task, slots);
     return packed(0, (uint32_t)margin_at(&wheel, &strips, 2, offset));
 }
 

@@ -50,11 +50,25 @@ struct least {
     bool shared;           /* an odd half tick has it as well */
 };
 
+/*
+ * Where strips between the ticks drop: a tick is late when a strip half a tick after it is dropped. A run of late ticks
+ * goes round the end of the wheel, and starts where a miss zone does (rule 8).
+ */
+struct late {
+    uint32_t ticks, runs; /* a wheel on which every tick is late has no run that starts */
+    uint32_t whole;       /* ticks at which a strip is dropped on the tick itself, too */
+    bool over_end;        /* the last tick of the wheel is late, and so is the first: a run goes on there */
+    /* Of a table that isn't firm: half a tick after (a - n * h) modulo w for a run's start a, too many strips drop. */
+    uint32_t showing, last_showing; /* runs that show it so, and the last of them, counted from 0 */
+    uint32_t least_n, most_n;       /* the least and the largest n with which one does */
+};
+
 struct verdict {
     uint32_t worst, offset;
     bool firm;
     bool equal_supply; /* some half tick has a supply of exactly e */
     struct least least;
+    struct late late;
 };
 
 struct task task_of_bytes(const uint8_t *bytes);
@@ -79,12 +93,15 @@ uint64_t supply_at(const struct wheel *wheel, uint64_t D, uint64_t q, uint64_t p
 int64_t margin_at(const struct wheel *wheel, const struct strips *strips, uint64_t q, uint64_t p);
 /* Rule 4 at p/q. */
 uint32_t count_at(const struct wheel *wheel, const struct strips *strips, uint64_t q, uint64_t p);
-/* Rules 6 and 7, and the least margin. */
+/* Rules 6 and 7, the least margin, and where strips drop. */
 struct verdict verdict_of(const struct wheel *wheel, const struct strips *strips);
 
 /* The calls. A judged reply is written as the archive should write it; other results are packed, the refusal number in the high half. */
 uint32_t definition_judge(const uint8_t *task, size_t task_len, const uint8_t *slots, size_t slots_len,
                           uint8_t *reply, size_t reply_len, struct verdict *verdict);
+/* 1 for firm, 0 for not, without a reply; the verdict of a refused task is all zero. */
+uint64_t definition_quick(const uint8_t *task, size_t task_len, const uint8_t *slots, size_t slots_len,
+                          struct verdict *verdict);
 uint64_t definition_count(const uint8_t *task, size_t task_len, const uint8_t *slots, size_t slots_len,
                           uint64_t offset);
 /* The place of the first bad slot beside 15 to 18; the strips aren't looked at. */

@@ -48,3 +48,13 @@ int read_file(struct file *file, const char *folder, const char *name)
         fclose(stream);
     return status;
 }
+
+int read_records(struct file *file, const char *folder, const char *name, size_t bytes)
+{
+    if (read_file(file, folder, name) != 0)
+        return -1;
+    if (file->len % bytes == 0)
+        return 0;
+    fprintf(stderr, "%s: %zu bytes aren't whole records of %zu\n", file->path, file->len, bytes);
+    return -1;
+}

@@ -17,5 +17,7 @@ struct file {
 int join_path(char path[PATH_ROOM], const char *folder, const char *name);
 /* Reads FOLDER/NAME; 0, or -1 with file and reason on stderr. */
 int read_file(struct file *file, const char *folder, const char *name);
+/* The same of a file that must be whole records of so many bytes: a call would refuse it, too, but not say which it is. */
+int read_records(struct file *file, const char *folder, const char *name, size_t bytes);
 
 #endif

@@ -1,6 +1,6 @@
 /*
- * docs/RULES.md, "Cases by hand" and "The printed sheet"; margins; strips that go round a small wheel; boards of
- * several owners; slot tables with their first bad slot; pairs of boards; see hand.h.
+ * docs/RULES.md, "Cases by hand" and "The printed sheet"; margins; strips that go round a small wheel; verdicts that
+ * hang by a strip; boards of several owners; slot tables with their first bad slot; pairs of boards; see hand.h.
  */
 #include "hand.h"
 
@@ -36,7 +36,7 @@ struct hand_point {
     int32_t margin; /* in half ticks */
 };
 
-/* A task, its slot buffer and an offset that every question at a half tick refuses. */
+/* A task and its slot buffer that judging and the verdict alone refuse, and every question at a half tick. */
 struct hand_refusal {
     const char *name;
     struct task task;
@@ -44,6 +44,12 @@ struct hand_refusal {
     size_t records;
     uint64_t offset;
     uint32_t number;
+};
+
+/* An offset that T doesn't have. */
+struct hand_beyond {
+    const char *name;
+    uint64_t offset;
 };
 
 /* Strips along a wheel of 3 ticks. */
@@ -111,6 +117,8 @@ struct hand_length {
 /* T of the paper: w 10, slot (0,8), e 4, D 5, h 14, k 2; one field is changed at a time. Its id is 7. */
 #define T(E, M) {7, 10, (E), 5, 14, (M), 2, 0, 1}
 #define T_SLOT SLOTS({0, 8, 7})
+/* The same with other strips to be painted and looked at. */
+#define T_MK(M, K) {7, 10, 4, 5, 14, (M), (K), 0, 1}
 /* The same with another id, on another part of the slots. */
 #define T_OF(ID, FIRST, COUNT) {(ID), 10, 4, 5, 14, 1, 2, (FIRST), (COUNT)}
 
@@ -176,6 +184,8 @@ static const struct hand_task tasks[] = {
     {"no slot of its own among others': all drop", T_OF(8, 0, 2), SLOTS({0, 8, 7}, {8, 10, 9}), 0, 0, 2, 0, -4},
     /* Ticks 0 to 3 alone: the supply at ticks 0 to 9 is 4 3 2 1 0 0 1 2 3 4, so one may arrive from 9 to 10. */
     {"an owner with another upper byte", T_OF(7, 0, 2), SLOTS({0, 4, 7}, {4, 8, 263}), 0, 0, 2, 1, -4},
+    /* With e 3 strips drop from 1 to 8; were the other's ticks the task's, too, none would, as in P7. */
+    {"the same with e 3", {7, 10, 3, 5, 14, 1, 2, 0, 2}, SLOTS({0, 4, 7}, {4, 8, 263}), 0, 0, 2, 3, -3},
     {"an owner without the upper byte", T_OF(519, 0, 2), SLOTS({0, 4, 519}, {4, 8, 7}), 0, 0, 2, 1, -4},
     {"an owner with another lower byte", T_OF(519, 0, 2), SLOTS({0, 4, 519}, {4, 8, 518}), 0, 0, 2, 1, -4},
     {"an owner with the bytes exchanged", T_OF(519, 0, 2), SLOTS({0, 4, 519}, {4, 8, 1794}), 0, 0, 2, 1, -4},
@@ -188,6 +198,37 @@ static const struct hand_task tasks[] = {
     {"512 slots of the task's fill a wheel", {7, 512, 3, 3, 5, 1, 2, 0, 512}, ticks, 513, 0, 1, 0, 0, 0},
     {"512 slots, each other one the task's", {7, 512, 1, 1, 2, 0, 2, 0, 512}, by_turns, 512, 0, 1, 2, 1, -1},
     {"512 slots, each other tick the task's", {7, 1024, 1, 1, 2, 1, 2, 0, 512}, apart, 512, 0, 0, 2, 1, -1},
+    {"P5 with m as large as k", T(4, 2), T_SLOT, 0, 0, 2, 9, -1},
+    {"P7 with m as large as k", T(3, 2), T_SLOT, 0, 1, 0, 0, 0},
+    {"P8 with m 0", T(6, 0), T_SLOT, 0, 1, 2, 0, -3},
+    {"P9 with m 0", {7, 10, 4, 5, 14, 0, 2, 0, 2}, SLOTS({0, 4, 7}, {4, 8, 7}), 0, 1, 2, 9, -1},
+    {"P10 with m 0", {7, 10, 1, 5, 5, 0, 3, 0, 0}, BARE, 0, 1, 3, 0, -1},
+    {"P11 with m 4", {1, 55, 27, 70, 70, 4, 10, 0, 2}, SLOTS({11, 21, 1}, {33, 43, 1}), 0, 0, 7, 39, -7},
+    /*
+     * Half a tick after ticks 4 to 8 a strip of T drops. A strip goes on by 4 ticks of 10: from an even tick it meets
+     * three of these in five strips, from an odd one two. So on an average 5 of 10 drop, and 6 of them at worst.
+     */
+    {"T with one strip, to be painted", T_MK(1, 1), T_SLOT, 0, 0, 1, 9, -1},
+    {"T with one strip, which may drop", T_MK(0, 1), T_SLOT, 0, 1, 1, 9, -1},
+    {"T with ten strips, six may drop", T_MK(4, 10), T_SLOT, 0, 1, 6, 1, -1},
+    {"T with ten strips, five may drop", T_MK(5, 10), T_SLOT, 0, 0, 6, 1, -1},
+    {"T with 1,024 strips, 615 may drop", T_MK(409, 1024), T_SLOT, 0, 1, 615, 9, -1},
+    {"T with 1,024 strips, 614 may drop", T_MK(410, 1024), T_SLOT, 0, 0, 615, 9, -1},
+    /* Half a tick after ticks 1 and 2 of 3 a strip drops, so of three in a row always two: as many as on an average. */
+    {"two of three drop from everywhere, and may", {7, 3, 1, 1, 1, 1, 3, 0, 1}, SLOTS({0, 2, 7}), 0, 1, 2, 1, -1},
+    {"two of three drop from everywhere, one may", {7, 3, 1, 1, 1, 2, 3, 0, 1}, SLOTS({0, 2, 7}), 0, 0, 2, 1, -1},
+    /*
+     * D 1, e 1: strips drop from just after the tick before a gap to its end. Two drop, of which one may, where one of
+     * them is at the short gap and the other well inside the long one: no strip is at the start of the long one.
+     */
+    {"it shows from the last gap, with its first strip", {7, 30, 1, 1, 20, 1, 2, 0, 3},
+     SLOTS({0, 3, 7}, {7, 15, 7}, {16, 30, 7}), 0, 0, 2, 29, -1},
+    {"it shows from the last gap, with its last strip", {7, 30, 1, 1, 10, 1, 2, 0, 3},
+     SLOTS({0, 3, 7}, {7, 15, 7}, {16, 30, 7}), 0, 0, 2, 9, -1},
+    {"it shows from the first gap", {7, 30, 1, 1, 12, 1, 2, 0, 3}, SLOTS({0, 3, 7}, {4, 13, 7}, {17, 30, 7}), 0, 0, 2,
+     5, -1},
+    {"it shows from a gap at the wheel's end", {7, 20, 1, 1, 10, 1, 2, 0, 2}, SLOTS({1, 6, 7}, {10, 20, 7}), 0, 0, 2,
+     19, -1},
     {"513 slots are refusal 14", {7, 513, 4, 5, 14, 1, 2, 0, 513}, ticks, 513, 14, 0, 0, 0, 0},
     {"another owner's (8,8) is refusal 15", T_OF(7, 0, 2), SLOTS({0, 8, 7}, {8, 8, 9}), 15, 0, 0, 0, 0},
     {"another owner's (8,11) is refusal 16", T_OF(7, 0, 2), SLOTS({0, 8, 7}, {8, 11, 9}), 16, 0, 0, 0, 0},
@@ -451,12 +492,18 @@ static const struct hand_table tables[] = {
     {"19 before 18", 65543, 10, 4, 0, 2, SLOTS({0, 4, 7}, {4, 8, 7, 1}), 19, 0},
 };
 
-/* Offset 20 is refused by T itself, so it shows what comes before 11. */
+/* Each is judged, and asked about at its offset. Offset 20 is refused by T itself: it shows what comes before 11. */
 static const struct hand_refusal refusals[] = {
     {"one slot record too few is refusal 3", {7, 0, 4, 5, 14, 1, 2, 0, 2}, SLOTS({0, 8, 7}), 9, 3},
     {"w 0 is refusal 4", {7, 0, 4, 5, 14, 1, 2, 0, 1}, SLOTS({0, 8, 7}), 0, 4},
     {"w 16,385 is refusal 4", {7, 16385, 4, 5, 14, 1, 2, 0, 1}, SLOTS({8, 8, 7}), 9, 4},
+    {"w 0 is refusal 4 before 14", {7, 0, 4, 5, 14, 1, 2, 0, 513}, ticks, 513, 9, 4},
     {"513 slots are refusal 14 at a half tick", {7, 513, 4, 5, 14, 1, 2, 0, 513}, ticks, 513, 9, 14},
+    {"513 slots are refusal 14 before 15", {7, 513, 0, 5, 14, 1, 2, 0, 513}, nothing, 513, 9, 14},
+    {"(11,11) is refusal 15 before 16", T(4, 1), SLOTS({11, 11, 7}), 9, 15},
+    {"(3,11) is refusal 16 before 17", T_OF(7, 0, 2), SLOTS({0, 4, 7}, {3, 11, 7}), 9, 16},
+    {"(3,8) with a spare byte is refusal 17 before 18", T_OF(7, 0, 2), SLOTS({0, 4, 7}, {3, 8, 7, 1}), 9, 17},
+    {"a spare byte is refusal 18 before a later slot's 15", T_OF(7, 0, 2), SLOTS({0, 4, 7, 1}, {8, 8, 7}), 9, 18},
     {"(8,8) is refusal 15", T(0, 1), SLOTS({8, 8, 7}), 9, 15},
     {"(0,11) is refusal 16", T(0, 1), SLOTS({0, 11, 7}), 20, 16},
     {"(0,4), (3,8) is refusal 17", {7, 10, 0, 5, 14, 1, 2, 0, 2}, SLOTS({0, 4, 7}, {3, 8, 7}), 9, 17},
@@ -477,10 +524,13 @@ static const struct hand_refusal refusals[] = {
     {"k 1,025 is refusal 9 at a half tick", {7, 10, 4, 5, 14, 1026, 1025, 0, 1}, SLOTS({0, 8, 7}), 20, 9},
     {"m above k is refusal 10", T(4, 3), SLOTS({0, 8, 7}), 9, 10},
     {"m above k is refusal 10 before 11", T(4, 3), SLOTS({0, 8, 7}), 20, 10},
-    {"T from half tick 20 is refusal 11", T(4, 1), SLOTS({0, 8, 7}), 20, 11},
-    {"T from half tick 2^32 + 9 is refusal 11", T(4, 1), SLOTS({0, 8, 7}), 4294967305, 11},
-    {"T from half tick 2^63 + 9 is refusal 11", T(4, 1), SLOTS({0, 8, 7}), 9223372036854775817u, 11},
-    {"T from half tick 2^64 - 1 is refusal 11", T(4, 1), SLOTS({0, 8, 7}), UINT64_MAX, 11},
+};
+
+static const struct hand_beyond beyond[] = {
+    {"T from half tick 20 is refusal 11", 20},
+    {"T from half tick 2^32 + 9 is refusal 11", 4294967305},
+    {"T from half tick 2^63 + 9 is refusal 11", 9223372036854775817u},
+    {"T from half tick 2^64 - 1 is refusal 11", UINT64_MAX},
 };
 
 const struct hand_bits hand_bits[HAND_BITS] = {
@@ -496,6 +546,10 @@ const struct hand_bits hand_bits[HAND_BITS] = {
 
 /* The buffer has two records, of which T's is the first. */
 static const struct hand_length lengths[] = {
+    {"judging 0 bytes is refusal 1", JUDGE, 0, RECORDS(2), 1},
+    {"judging 31 bytes is refusal 1", JUDGE, 31, RECORDS(2), 1},
+    {"judging 33 bytes is refusal 1", JUDGE, 33, RECORDS(2), 1},
+    {"judging no bytes at all is refusal 1", JUDGE, 0, 0, 1},
     {"judging with slots of 8 bytes is refusal 1", JUDGE, 32, 8, 1},
     {"judging with slots of 11 bytes is refusal 1", JUDGE, 32, 11, 1},
     {"judging with slots of 13 bytes is refusal 1", JUDGE, 32, 13, 1},
@@ -547,8 +601,8 @@ static const struct hand_pair pairs[] = {
 
 size_t hand_count(void)
 {
-    return LENGTH(tasks) + LENGTH(replies) + LENGTH(points) + LENGTH(rounds) + LENGTH(refusals) + LENGTH(grants) +
-           LENGTH(sites) + LENGTH(tables) + LENGTH(lengths);
+    return LENGTH(tasks) + LENGTH(replies) + LENGTH(points) + LENGTH(rounds) + 2 * LENGTH(refusals) + LENGTH(beyond) +
+           LENGTH(grants) + LENGTH(sites) + LENGTH(tables) + LENGTH(lengths);
 }
 
 static void put_slot(uint8_t *bytes, const uint32_t slot[SLOT_FIELDS])
@@ -579,6 +633,12 @@ static void put_t(struct input *input)
     put_task(input, &tasks[0].task, tasks[0].slots, tasks[0].records);
 }
 
+static void say_judged(struct expected *said, uint32_t number, uint32_t firm)
+{
+    said->result = number;
+    said->quick = PACKED(number, firm);
+}
+
 static const char *judge_case(const struct hand_task *hand, struct input *input, struct expected *said)
 {
     input->kind = JUDGE;
@@ -590,7 +650,7 @@ static const char *judge_case(const struct hand_task *hand, struct input *input,
     put_number(said->reply + 8, hand->worst, 4);
     put_number(said->reply + 12, hand->at, 4);
     put_number(said->reply + MARGIN_AT, (uint32_t)hand->margin, 4);
-    said->result = hand->number;
+    say_judged(said, hand->number, hand->firm);
     return hand->name;
 }
 
@@ -611,7 +671,8 @@ static const char *reply_case(const struct hand_reply *hand, struct input *input
     input->reply_len = hand->len;
     if (hand->number == 0)
         memcpy(said->reply, answer, ANSWER_BYTES);
-    said->result = hand->number;
+    say_judged(said, hand->number, 0);
+    said->quick = PACKED(0, 0); /* it has no reply */
     return hand->name;
 }
 
@@ -652,6 +713,21 @@ static const char *refusal_case(const struct hand_refusal *hand, struct input *i
     put_task(input, &hand->task, hand->slots, hand->records);
     input->offset = hand->offset;
     say_refusal(said, hand->number);
+    return hand->name;
+}
+
+static const char *judged_refusal_case(const struct hand_refusal *hand, struct input *input, struct expected *said)
+{
+    const struct hand_task judged = {hand->name, hand->task, hand->slots, hand->records, hand->number, 0, 0, 0, 0};
+    return judge_case(&judged, input, said);
+}
+
+static const char *beyond_case(const struct hand_beyond *hand, struct input *input, struct expected *said)
+{
+    put_t(input);
+    input->kind = COUNT;
+    input->offset = hand->offset;
+    say_refusal(said, 11);
     return hand->name;
 }
 
@@ -706,10 +782,12 @@ static const char *length_case(const struct hand_length *hand, struct input *inp
     input->task_len = hand->task_len;
     input->slots_len = hand->slots_len;
     input->reply_len = ANSWER_BYTES;
-    if (hand->kind == COUNT)
+    if (hand->kind == JUDGE)
+        say_judged(said, hand->number, 0);
+    else if (hand->kind == COUNT)
         say_refusal(said, hand->number);
     else
-        said->result = hand->kind == WHICH ? PACKED(hand->number, 0) : hand->number;
+        said->result = PACKED(hand->number, 0);
     return hand->name;
 }
 
@@ -733,6 +811,12 @@ const char *hand_case(size_t i, struct input *input, struct expected *said)
     if (i < LENGTH(refusals))
         return refusal_case(&refusals[i], input, said);
     i -= LENGTH(refusals);
+    if (i < LENGTH(refusals))
+        return judged_refusal_case(&refusals[i], input, said);
+    i -= LENGTH(refusals);
+    if (i < LENGTH(beyond))
+        return beyond_case(&beyond[i], input, said);
+    i -= LENGTH(beyond);
     if (i < LENGTH(grants))
         return grant_case(&grants[i], input, said);
     i -= LENGTH(grants);
@@ -765,7 +849,7 @@ const char *hand_pair(size_t i, struct input *one, struct input *other, struct e
     put_task(other, &twin, hand->other_slots, hand->other_records);
     const uint32_t number = get_number(hand->answer + 4, 2);
     memcpy(judged->reply, hand->answer, ANSWER_BYTES);
-    judged->result = number;
+    say_judged(judged, number, get_number(hand->answer + 6, 2));
     if (number == 0)
         say_point(counted, hand->drops, hand->supply, hand->margin);
     else

@@ -24,7 +24,8 @@ enum {
     SITE_EVERY = 50,
     EDGE_SITE_EVERY = 650,
     WHICH_EVERY = 20,
-    PAIR_EVERY = 25
+    PAIR_EVERY = 25,
+    HANGING_EVERY = 50
 };
 
 const uint32_t wheel_edges[WHEEL_EDGES] = {255,  256,  257,  2047, 2048, 2049,  4095,
@@ -899,15 +900,39 @@ static void draft_edge(struct rng *rng, struct draft *draft, uint32_t w, enum ed
         draft_gaps(rng, draft, w, slots, SOME_STRIPS + below(rng, MANY_STRIPS_FROM - SOME_STRIPS));
 }
 
-static void make_edge_task(struct rng *rng, struct input *input, uint32_t w, enum edge_use use)
+static struct verdict verdict_of_draft(const struct draft *draft)
+{
+    struct wheel wheel;
+    wheel_of_draft(&wheel, draft);
+    return verdict_of(&wheel, &draft->strips);
+}
+
+/* As many strips drop as may, or one more; where none drops, the task is firm all the same. */
+static void hang(struct draft *draft, bool one_more)
+{
+    struct strips *s = &draft->strips;
+    s->m = 0; /* it plays no part in the worst count */
+    s->m = at_most(s->k - verdict_of_draft(draft).worst + one_more, s->k);
+}
+
+/* Good records, judged or asked about behind the last slot. */
+static void lay_task(struct rng *rng, struct input *input, struct draft *draft)
+{
+    lay_draft(rng, input, draft);
+    input->offset = 2 * (uint64_t)draft->task.w - 1 - below(rng, 2);
+    input->reply_len = ANSWER_BYTES;
+    scribble(rng, input->reply, REPLY_ROOM);
+}
+
+/* Behind the last slot the first strip drops. Uses with and without a drop too many take turns. */
+static void make_edge_task(struct rng *rng, struct input *input, uint32_t w, enum edge_use use, uint64_t turn)
 {
     struct draft draft;
     input->kind = use == EDGE_COUNT ? COUNT : JUDGE;
     draft_edge(rng, &draft, w, use);
-    lay_draft(rng, input, &draft);
-    input->offset = 2 * (uint64_t)w - 1 - below(rng, 2); /* behind the last slot, where the first strip drops */
-    input->reply_len = ANSWER_BYTES;
-    scribble(rng, input->reply, REPLY_ROOM);
+    if (use != EDGE_COUNT)
+        hang(&draft, (use + turn) % 2 == 1);
+    lay_task(rng, input, &draft);
 }
 
 /* All slots are free and no strip needs more than a full wheel has. */
@@ -931,11 +956,128 @@ static void make_edge_grant(struct rng *rng, struct input *input, uint64_t w)
 static void make_edge_input(struct rng *rng, struct input *input, uint64_t number)
 {
     uint32_t w = wheel_edges[number % WHEEL_EDGES];
+    uint64_t turn = number / WHEEL_EDGES / EDGE_SITE;
     enum edge_use use = (enum edge_use)(number / WHEEL_EDGES % EDGE_SITE);
     if (use == EDGE_GRANT)
         make_edge_grant(rng, input, w);
     else
-        make_edge_task(rng, input, w, use);
+        make_edge_task(rng, input, w, use, turn);
+}
+
+/* ---- verdicts that hang by one strip, or nearly ---- */
+
+/* What a task is like then. The shapes go round, so that a short run meets each, with and without a drop too many. */
+enum hanging_shape { MOST_STRIPS_SHAPE, BYTE_SHAPE, TURNS_SHAPE, RUNS_SHAPE, GAPS_SHAPE, COMB_SHAPE, HANGING_SHAPES };
+
+/* So many strips that 256 drop, if as many ever do: one strip more drops one more at most. */
+static void drop_256(struct draft *draft)
+{
+    struct strips *s = &draft->strips;
+    uint64_t low = 1, high = STRIPS_MAX;
+    s->m = 0;
+    while (low < high) {
+        s->k = (low + high) / 2;
+        if (verdict_of_draft(draft).worst < 256)
+            low = s->k + 1;
+        else
+            high = s->k;
+    }
+    s->k = low;
+}
+
+/* Strips for whole turns of a wheel; on an average as many drop as may, or about a strip more or less. */
+static void draft_average(struct rng *rng, struct draft *draft, uint64_t turn)
+{
+    struct strips *s = &draft->strips;
+    const uint64_t w = draft->task.w;
+    s->k = w * (1 + below(rng, at_most(STRIPS_MAX / w, 4)));
+    s->m = 0;
+    const uint64_t painted = s->k - s->k / w * verdict_of_draft(draft).late.ticks;
+    const uint64_t beside = painted + turn % 3; /* one more than what is meant */
+    s->m = beside > 0 ? at_most(beside - 1, s->k) : 0;
+}
+
+/* Whether a tick lies in a gap, which may go over the wheel's end. */
+static bool in_gap(uint64_t tick, uint64_t start, uint64_t length, uint64_t w)
+{
+    return (tick + w - start) % w < length;
+}
+
+/*
+ * A long gap, one of a tick, and often another one, on a short wheel or a long one. The period carries a strip from the
+ * short one well into the long one, or back: so two drop together from offsets that have to do with the short gap's
+ * start alone.
+ */
+static void draft_unequal_gaps(struct rng *rng, struct draft *draft)
+{
+    struct strips *s = &draft->strips;
+    const uint64_t unit = one_in(rng, 2) ? 1 : 64 + below(rng, 256);
+    const uint64_t w = unit * (24 + below(rng, 24)), length = unit * (4 + below(rng, 4)), from = below(rng, w);
+    const uint64_t short_one = below(rng, w), third = one_in(rng, 3) ? short_one : below(rng, w);
+    const uint64_t there = (from + 1 + below(rng, length - 1) + w - short_one) % w;
+    uint64_t start = 0;
+    open_draft(rng, draft, SLOTS_MAX);
+    draft->task.w = (uint32_t)w;
+    for (uint64_t tick = 0; tick < w; tick++)
+        if (in_gap(tick, from, length, w) || tick == short_one || tick == third) {
+            put_slot(&draft->table, start, tick);
+            start = tick + 1;
+        }
+    put_slot(&draft->table, start, w);
+    share(rng, &draft->table, w, draft->task.id);
+    s->D = s->e = 1;
+    s->h = w + (one_in(rng, 2) ? there : w - there);
+    s->k = 2;
+}
+
+/*
+ * Each sixth tick is a gap, and a strip goes on by three ticks beside whole sixes, so that no two meet such gaps. There
+ * is one gap more, behind 64 of them or more: a strip that meets its start drops together with one inside another gap.
+ */
+static void draft_comb(struct rng *rng, struct draft *draft)
+{
+    struct strips *s = &draft->strips;
+    const uint64_t pitch = 6, teeth = MANY_SLOTS + 2 + below(rng, SLOTS_MAX - MANY_SLOTS - 2), w = pitch * teeth;
+    const uint64_t tooth = MANY_SLOTS + below(rng, teeth - MANY_SLOTS);
+    open_draft(rng, draft, SLOTS_MAX);
+    draft->task.w = (uint32_t)w;
+    for (uint64_t i = 0; i < teeth; i++) {
+        put_slot(&draft->table, pitch * i + 1, pitch * i + (i == tooth ? 4 : pitch));
+        if (i == tooth)
+            put_slot(&draft->table, pitch * i + 5, pitch * (i + 1));
+    }
+    s->D = s->e = 1;
+    s->h = pitch * below(rng, teeth) + pitch / 2;
+    s->k = 2;
+}
+
+static void draft_hanging(struct rng *rng, struct draft *draft, enum hanging_shape shape, uint64_t turn)
+{
+    const uint64_t slots = MANY_SLOTS + 1 + below(rng, MANY_SLOTS), pitch = 2 + below(rng, 4);
+    if (shape == RUNS_SHAPE)
+        draft_gaps(rng, draft, slots * pitch, slots, 2 + below(rng, SOME_STRIPS));
+    else if (shape == GAPS_SHAPE)
+        draft_unequal_gaps(rng, draft);
+    else if (shape == COMB_SHAPE)
+        draft_comb(rng, draft);
+    else
+        draft_task(rng, draft, JUDGE, small_work);
+    if (shape == MOST_STRIPS_SHAPE)
+        draft->strips.k = STRIPS_MAX;
+    if (shape == BYTE_SHAPE)
+        drop_256(draft);
+    if (shape == TURNS_SHAPE)
+        draft_average(rng, draft, turn);
+    else
+        hang(draft, turn % 2 == 1 || shape >= GAPS_SHAPE);
+}
+
+static void make_hanging_input(struct rng *rng, struct input *input, uint64_t number)
+{
+    struct draft draft;
+    input->kind = JUDGE;
+    draft_hanging(rng, &draft, (enum hanging_shape)(number % HANGING_SHAPES), number / HANGING_SHAPES);
+    lay_task(rng, input, &draft);
 }
 
 /* ---- granting ---- */
@@ -1548,7 +1690,7 @@ void make_pair(struct input *one, struct input *other, struct rng *rng)
 
 /* ---- all ---- */
 
-/* Sites, edges, which slot and pairs stand at numbers of their own, which no larger work has either. */
+/* Sites, edges, which slot, hanging verdicts and pairs stand at numbers of their own, which no larger work has. */
 void make_input(struct input *input, struct rng *rng, uint64_t number)
 {
     uint64_t work = work_for(number), kind = below(rng, 10);
@@ -1562,6 +1704,8 @@ void make_input(struct input *input, struct rng *rng, uint64_t number)
         make_edge_input(rng, input, number / EDGE_EVERY);
     else if (number % WHICH_EVERY == 2 * WHICH_EVERY / 3)
         make_which_input(rng, input, number / WHICH_EVERY);
+    else if (number % HANGING_EVERY == 5 * HANGING_EVERY / 8)
+        make_hanging_input(rng, input, number / HANGING_EVERY);
     else if (input->kind == GRANT)
         make_grant_input(rng, input, work);
     else

@@ -4,7 +4,10 @@
 
 #include "definition.h"
 
-/* Where a count is asked for, so are the supply and the margin at the same half tick. */
+/*
+ * Where a task is judged, the verdict alone is asked for as well; where a count is asked for, so are the supply and the
+ * margin at the same half tick.
+ */
 enum kind { JUDGE, COUNT, GRANT, SITE, WHICH, KINDS };
 
 enum {
@@ -34,7 +37,10 @@ struct input {
 enum { WHEEL_EDGES = 14 };
 extern const uint32_t wheel_edges[WHEEL_EDGES];
 
-/* What must be asked of each of them, and met with drops or granted slots; the last two among a site's records. */
+/*
+ * What must be asked of each of them, and met with drops or granted slots; behind these, among a site's records; and
+ * judged with as many drops as may be, and with one more.
+ */
 enum edge_use {
     EDGE_FEW,
     EDGE_SOME,
@@ -45,6 +51,8 @@ enum edge_use {
     EDGE_GRANT,
     EDGE_SITE,
     EDGE_SITE_MANY,
+    EDGE_FIRM,
+    EDGE_NOT_FIRM,
     EDGE_USES
 };
 

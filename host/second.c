@@ -6,9 +6,11 @@
  *
  * Each call's result and the whole of each lent buffer, with guard bytes on
  * both sides, must be as the definition says; inputs must stay as they were.
- * Where a count is asked for, so are the supply and the margin. A site's answers
- * must also be what the archive says of each record alone, a judged least margin
- * what it says of some whole tick, and all calls must refuse a slot table alike.
+ * Where a count is asked for, so are the supply and the margin; where a task is
+ * judged, so is the verdict alone, which must also be what judging says. A site's
+ * answers must also be what the archive says of each record alone, a judged least
+ * margin what it says of some whole tick, and all calls must refuse a slot table
+ * alike.
  * Two good boards with the same slots for a task's id must give it the same.
  * The first difference is printed with its seed, number and bytes, and ends
  * the run. So does, at the end, a class of inputs that was never met.
@@ -92,6 +94,18 @@ static bool holds(const struct lent *lent, const uint8_t *content)
 
 /* ---- both sides ---- */
 
+/* Judging has come to the verdict already, unless its reply was too short. */
+static void define_judged(const struct input *in, struct expected *expected)
+{
+    struct verdict *verdict = &expected->verdict, unused;
+    expected->result = definition_judge(in->task, in->task_len, in->slots, in->slots_len, expected->reply,
+                                        in->reply_len, verdict);
+    if (expected->result == 2)
+        expected->quick = definition_quick(in->task, in->task_len, in->slots, in->slots_len, &unused);
+    else
+        expected->quick = expected->result << 32 | verdict->firm;
+}
+
 static void define_point(const struct input *in, struct expected *expected)
 {
     expected->result = definition_count(in->task, in->task_len, in->slots, in->slots_len, in->offset);
@@ -104,8 +118,7 @@ static void define(const struct input *in, struct expected *expected)
     memcpy(expected->reply, in->reply, SITE_REPLY_ROOM);
     memcpy(expected->marks, in->marks, MARKS_ROOM);
     if (in->kind == JUDGE)
-        expected->result = definition_judge(in->task, in->task_len, in->slots, in->slots_len, expected->reply,
-                                            in->reply_len, &expected->verdict);
+        define_judged(in, expected);
     else if (in->kind == SITE)
         expected->result = definition_site(in->task, in->task_len, in->slots, in->slots_len, expected->reply,
                                            in->reply_len);
@@ -250,17 +263,41 @@ static bool least_holds(const struct input *in, const struct least *least, const
     return false;
 }
 
-/* Each answer of a site against the archive's own single one, from the very bytes that the site lent. */
+/* The verdict alone, as a number and an answer have it. */
+static uint64_t verdict_in(uint32_t number, const uint8_t *answer)
+{
+    return (uint64_t)number << 32 | get_number(answer + 6, 2);
+}
+
+/* The verdict alone, of the very bytes that were lent: by definition, and as the archive judges with room to answer. */
+static bool quick_holds(const struct input *in, const struct expected *expected, const struct lent_buffers *buffers)
+{
+    const uint8_t *task = content_of(&buffers->task), *slots = content_of(&buffers->slots);
+    uint8_t answer[ANSWER_BYTES] = {0}; /* refusal 1 leaves it so */
+    uint64_t quick = fiddlequill_quick(task, in->task_len, slots, in->slots_len);
+    uint32_t number = fiddlequill_judge(task, in->task_len, slots, in->slots_len, answer, sizeof answer);
+    if (quick == expected->quick && quick == verdict_in(number, answer) && buffers_hold(in, expected, buffers))
+        return true;
+    printf("  the verdict alone is %#" PRIx64 ", by definition %#" PRIx64 ", judged %#" PRIx64 "; lent buffers %s\n",
+           quick, expected->quick, verdict_in(number, answer),
+           buffers_hold(in, expected, buffers) ? "as they were" : "WRITTEN");
+    return false;
+}
+
+/* Each answer of a site against the archive's own single ones, from the very bytes that the site lent. */
 static bool answers_hold(const struct lent_buffers *buffers)
 {
     const uint8_t *tasks = buffers->task.room + buffers->task.lead, *slots = buffers->slots.room + buffers->slots.lead;
     const uint8_t *reply = buffers->reply.room + buffers->reply.lead;
     for (size_t i = 0; i < buffers->task.len / TASK_BYTES; i++) {
+        const uint8_t *task = tasks + i * TASK_BYTES;
         uint8_t answer[ANSWER_BYTES];
-        uint32_t number = fiddlequill_judge(tasks + i * TASK_BYTES, TASK_BYTES, slots, buffers->slots.len, answer,
-                                            sizeof answer);
-        if (number != get_number(answer + 4, 2) || memcmp(answer, reply + i * ANSWER_BYTES, sizeof answer) != 0) {
-            printf("  record %zu judged by itself gives %" PRIu32 ":\n", i, number);
+        uint32_t number = fiddlequill_judge(task, TASK_BYTES, slots, buffers->slots.len, answer, sizeof answer);
+        uint64_t quick = fiddlequill_quick(task, TASK_BYTES, slots, buffers->slots.len);
+        if (number != get_number(answer + 4, 2) || quick != verdict_in(number, answer) ||
+            memcmp(answer, reply + i * ANSWER_BYTES, sizeof answer) != 0) {
+            printf("  record %zu judged by itself gives %" PRIu32 ", the verdict alone is %#" PRIx64 ":\n", i, number,
+                   quick);
             print_hex("alone", answer, sizeof answer);
             print_hex("in its site", reply + i * ANSWER_BYTES, sizeof answer);
             return false;
@@ -323,7 +360,9 @@ static bool others_refuse_alike(const struct input *in, const struct lent_buffer
     uint64_t count = fiddlequill_count(task, in->task_len, slots, in->slots_len, in->offset);
     uint64_t supply = fiddlequill_supply(task, in->task_len, slots, in->slots_len, in->offset);
     uint64_t margin = fiddlequill_margin(task, in->task_len, slots, in->slots_len, in->offset);
-    return refused_alike("judge", judged, number) && refused_alike("count", fiddlequill_number(count), number) &&
+    uint64_t quick = fiddlequill_quick(task, in->task_len, slots, in->slots_len);
+    return refused_alike("judge", judged, number) && refused_alike("quick", fiddlequill_number(quick), number) &&
+           refused_alike("count", fiddlequill_number(count), number) &&
            refused_alike("supply", fiddlequill_number(supply), number) &&
            refused_alike("margin", fiddlequill_number(margin), number);
 }
@@ -350,7 +389,7 @@ static bool others_hold(const struct input *in, const struct expected *expected,
     const uint64_t result = expected->result;
     switch (in->kind) {
     case JUDGE:
-        return which_slot_holds(in, buffers, (uint32_t)result) &&
+        return which_slot_holds(in, buffers, (uint32_t)result) && quick_holds(in, expected, buffers) &&
                (result != 0 || (worst_holds(in, buffers, tally, rng) &&
                                 least_holds(in, &expected->verdict.least, buffers, tally, rng)));
     case COUNT:
@@ -386,7 +425,7 @@ static bool agree(const struct input *in, struct lent_buffers *buffers, struct t
 struct heard {
     uint32_t number;
     uint8_t reply[REPLY_ROOM];
-    uint64_t count, supply, margin;
+    uint64_t quick, count, supply, margin;
 };
 
 static struct heard hear(const struct input *in)
@@ -394,6 +433,7 @@ static struct heard hear(const struct input *in)
     struct heard heard;
     memcpy(heard.reply, in->reply, REPLY_ROOM);
     heard.number = fiddlequill_judge(in->task, in->task_len, in->slots, in->slots_len, heard.reply, in->reply_len);
+    heard.quick = fiddlequill_quick(in->task, in->task_len, in->slots, in->slots_len);
     heard.count = fiddlequill_count(in->task, in->task_len, in->slots, in->slots_len, in->offset);
     heard.supply = fiddlequill_supply(in->task, in->task_len, in->slots, in->slots_len, in->offset);
     heard.margin = fiddlequill_margin(in->task, in->task_len, in->slots, in->slots_len, in->offset);
@@ -402,9 +442,9 @@ static struct heard hear(const struct input *in)
 
 static void print_heard(const struct input *in, const struct heard *heard)
 {
-    printf("  judged with %" PRIu32 "; at half tick %" PRIu64 " count %#" PRIx64 ", supply %#" PRIx64
-           ", margin %#" PRIx64 "\n",
-           heard->number, in->offset, heard->count, heard->supply, heard->margin);
+    printf("  judged with %" PRIu32 ", the verdict alone %#" PRIx64 "; at half tick %" PRIu64 " count %#" PRIx64
+           ", supply %#" PRIx64 ", margin %#" PRIx64 "\n",
+           heard->number, heard->quick, in->offset, heard->count, heard->supply, heard->margin);
     print_hex("reply", heard->reply, in->reply_len);
     print_input(in);
 }
@@ -420,8 +460,8 @@ static bool boards_agree(const struct input pair[2], struct tally *tally)
     }
     struct heard one = hear(&pair[0]), other = hear(&pair[1]);
     tally_add_pair(tally, &pair[0], &pair[1], one.reply, fiddlequill_number(one.count));
-    if (one.number == other.number && memcmp(one.reply, other.reply, REPLY_ROOM) == 0 && one.count == other.count &&
-        one.supply == other.supply && one.margin == other.margin)
+    if (one.number == other.number && memcmp(one.reply, other.reply, REPLY_ROOM) == 0 && one.quick == other.quick &&
+        one.count == other.count && one.supply == other.supply && one.margin == other.margin)
         return true;
     printf("  two boards that are the same for their owner don't give the same:\n");
     print_heard(&pair[0], &one);
@@ -449,8 +489,8 @@ static bool said_by_definition(const struct input *in, const struct expected *sa
 {
     struct expected expected = {0};
     define(in, &expected);
-    return expected.result == said->result && expected.supply == said->supply && expected.margin == said->margin &&
-           memcmp(expected.reply, said->reply, SITE_REPLY_ROOM) == 0 &&
+    return expected.result == said->result && expected.quick == said->quick && expected.supply == said->supply &&
+           expected.margin == said->margin && memcmp(expected.reply, said->reply, SITE_REPLY_ROOM) == 0 &&
            memcmp(expected.marks, said->marks, MARKS_ROOM) == 0;
 }
 

@@ -256,6 +256,94 @@ static void add_shared(struct tally *tally, const struct task *task, const struc
     note(tally, SHARED_LEAST, margin_at(&own, &strips, 1, first) < margin_at(&all, &strips, 1, first));
 }
 
+static uint32_t common_divisor(uint32_t a, uint32_t b)
+{
+    while (b > 0) {
+        const uint32_t rest = a % b;
+        a = b;
+        b = rest;
+    }
+    return a;
+}
+
+/* A strip more would turn the one verdict, a strip less the other: what the wheel and its drops are like then. */
+static void add_hanging(struct tally *tally, const struct task *task, const struct verdict *verdict)
+{
+    const struct late *late = &verdict->late;
+    const uint32_t worst = verdict->worst, may = task->k - task->m, divisor = common_divisor(task->w, task->h);
+    const bool some = worst < task->k, not_every = late->ticks < task->w;
+    const bool sparse = task->k > 1 && late->runs > 1 && task->k * late->runs * late->runs <= task->w / 128;
+    const struct {
+        enum input_class firm, not_firm;
+        bool met;
+    } classes[] = {
+        {QUICK_ZERO_FIRM, QUICK_ZERO_NOT, verdict->offset == 0},
+        {QUICK_ONE_FIRM, QUICK_ONE_NOT, task->k == 1},
+        {QUICK_MOST_FIRM, QUICK_MOST_NOT, task->k == STRIPS_MAX && some},
+        {QUICK_WIDE_FIRM, QUICK_WIDE_NOT, worst > 255 && some},
+        {QUICK_RUN_FIRM, QUICK_RUN_NOT, late->runs == 1},
+        {QUICK_SPARSE_FIRM, QUICK_SPARSE_NOT, sparse && task->k * late->ticks <= may * task->w},
+        {QUICK_RUNS_FIRM, QUICK_RUNS_NOT, late->runs > GRANT_SLOTS_MAX},
+        {QUICK_END_FIRM, QUICK_END_NOT, late->over_end && not_every},
+        {QUICK_DIVISOR_FIRM, QUICK_DIVISOR_NOT, divisor > 1 && divisor < task->w && some},
+        {QUICK_TURNS_FIRM, QUICK_TURNS_NOT, divisor > 1 && divisor == task->w && not_every},
+    };
+    for (size_t i = 0; i < sizeof classes / sizeof *classes; i++) {
+        note(tally, classes[i].firm, classes[i].met && worst > 0 && worst == may);
+        note(tally, classes[i].not_firm, classes[i].met && worst == may + 1);
+    }
+    note(tally, QUICK_255, may == 255 && worst == 256);
+    note_edge(tally, task->w, EDGE_FIRM, worst > 0 && worst == may);
+    note_edge(tally, task->w, EDGE_NOT_FIRM, worst == may + 1);
+}
+
+/*
+ * The counts from half a tick after each tick add up to k times the late ticks. If they are more than w times what may
+ * drop, so is one of them; if they aren't, nothing is known.
+ */
+static void add_average(struct tally *tally, const struct task *task, const struct verdict *verdict)
+{
+    const uint32_t w = task->w, ticks = verdict->late.ticks;
+    const uint32_t counts = task->k * ticks, may = (task->k - task->m) * w; /* at most 1,024 x 16,384 */
+    const bool some = ticks > 0 && ticks < w, below = some && counts < may && counts + w >= may;
+    note(tally, QUICK_BELOW_FIRM, below && verdict->firm);
+    note(tally, QUICK_BELOW_NOT, below && !verdict->firm);
+    note(tally, QUICK_EQUAL_FIRM, some && counts == may && verdict->firm);
+    note(tally, QUICK_EQUAL_NOT, some && counts == may && !verdict->firm);
+    note(tally, QUICK_ABOVE_NOT, some && counts > may && counts <= may + w);
+}
+
+/* Of a table that isn't firm: which late runs, and which strips at their starts, lead to offsets that show it. */
+static void add_showing(struct tally *tally, const struct task *task, const struct late *late)
+{
+    const bool alone = late->showing == 1 && late->runs > 1;
+    const bool first = late->last_showing == 0, last = late->last_showing + 1 == late->runs;
+    note(tally, QUICK_FIRST_SHOWS, alone && first);
+    note(tally, QUICK_MIDDLE_SHOWS, alone && !first && !last);
+    note(tally, QUICK_LAST_SHOWS, alone && last);
+    note(tally, QUICK_END_SHOWS, alone && last && late->over_end);
+    note(tally, QUICK_PAST_64, alone && !last && late->last_showing >= GRANT_SLOTS_MAX);
+    note(tally, QUICK_START_SHOWS, late->showing > 0 && task->k > 1 && late->most_n == 0);
+    note(tally, QUICK_FINISH_SHOWS, late->showing > 0 && task->k > 1 && late->least_n == task->k - 1);
+}
+
+static void add_quick(struct tally *tally, const struct task *task, const struct verdict *verdict)
+{
+    const struct late *late = &verdict->late;
+    const bool every = late->whole == task->w, between = late->ticks == task->w;
+    note(tally, QUICK_M_0, task->m == 0 && verdict->worst == task->k && !between);
+    note(tally, QUICK_ALL_FIRM, verdict->firm && every);
+    note(tally, QUICK_ALL_NOT, !verdict->firm && every);
+    note(tally, QUICK_BETWEEN_NOT, !verdict->firm && between && !every);
+    note(tally, QUICK_PAINTED_FIRM, verdict->firm && task->m == task->k);
+    note(tally, QUICK_PAINTED_NOT, verdict->worst == 1 && task->m == task->k);
+    note(tally, QUICK_ONE_PAINTED, verdict->firm && task->k == 1 && task->m == 1);
+    add_hanging(tally, task, verdict);
+    add_average(tally, task, verdict);
+    if (!verdict->firm)
+        add_showing(tally, task, late);
+}
+
 static void add_judged(struct tally *tally, const struct task *task, const struct input *input,
                        const struct board *board, const struct verdict *verdict)
 {
@@ -281,6 +369,7 @@ static void add_judged(struct tally *tally, const struct task *task, const struc
     note(tally, OWNED_512, board->owned == SLOTS_MAX && verdict->worst > 0);
     note_edge(tally, task->w, edge_use_of(task, board->owned), verdict->worst > 0);
     add_least(tally, task, board, verdict);
+    add_quick(tally, task, verdict);
     if (board->owned > 0 && board->others > 0)
         add_shared(tally, task, input, verdict);
 }
@@ -928,8 +1017,11 @@ void tally_add_pair(struct tally *tally, const struct input *one, const struct i
 {
     struct task task = task_of_bytes(one->task), twin = task_of_bytes(other->task);
     const uint32_t number = get_number(answer + 4, 2), worst = get_number(answer + 8, 4);
+    const bool firm = get_number(answer + 6, 2) == 1;
     add_boards_differ(tally, one, other);
     note(tally, PAIR_DROPS, number == 0 && worst > 0 && worst < task.k);
+    note(tally, PAIR_FIRM, firm && worst > 0);
+    note(tally, PAIR_NOT_FIRM, number == 0 && !firm);
     note(tally, PAIR_TELLS, refused_at == 0 && supply_of_board(&task, one) != supply_of_board(&twin, other));
     note(tally, PAIR_6, number == 6);
     note(tally, PAIR_7, number == 7);
@@ -945,6 +1037,7 @@ void tally_add(struct tally *tally, const struct input *input, const struct expe
 {
     uint32_t number = number_of(input->kind, expected->result);
     tally->numbers[input->kind][number]++;
+    tally->quick[expected->quick >> 32] += input->kind == JUDGE;
     if (input->kind == GRANT)
         add_grant(tally, input, expected, number);
     else if (input->kind == SITE && number == 0)
@@ -990,12 +1083,13 @@ static unsigned print_known(bool known, uint64_t met)
 static unsigned print_numbers(const struct tally *tally)
 {
     unsigned never = 0;
-    printf("%-8s %10s %10s %10s %10s %10s %10s\n", "refusal", "judge", "count", "grant", "site", "which slot",
-           "in a site");
+    printf("%-8s %10s %10s %10s %10s %10s %10s %10s\n", "refusal", "judge", "count", "grant", "site", "which slot",
+           "quick", "in a site");
     for (uint32_t number = 0; number < NUMBERS; number++) {
         printf("%-8" PRIu32, number);
         for (enum kind kind = JUDGE; kind < KINDS; kind++)
             never += print_known(knows(kind, number), tally->numbers[kind][number]);
+        never += print_known(knows(JUDGE, number) && number != 2, tally->quick[number]);
         never += print_known(knows(JUDGE, number) && number != 1 && number != 2, tally->answers[number]);
         printf("\n");
     }
@@ -1024,13 +1118,13 @@ static unsigned print_bad_slots(const struct tally *tally)
 /*
  * Each wheel at an edge, with something dropped or granted: judged with few strips, and with many strips and 64 slots
  * of the task's or more, or the most that have ticks between them; counted; granted; judged in a site, with k to 255
- * and above.
+ * and above; judged as firm with as many drops as may be, and as not firm with one more.
  */
 static unsigned print_edges(const struct tally *tally)
 {
     unsigned never = 0;
-    printf("%-8s %10s %10s %10s %10s %10s %10s %10s %10s %10s\n", "wheel", "k to 4", "64, to 255", "64, k 256+",
-           "most, 255", "most, 256+", "count", "grant", "site", "site, 256+");
+    printf("%-8s %10s %10s %10s %10s %10s %10s %10s %10s %10s %10s %10s\n", "wheel", "k to 4", "64, to 255",
+           "64, k 256+", "most, 255", "most, 256+", "count", "grant", "site", "site, 256+", "firm", "not firm");
     for (size_t i = 0; i < WHEEL_EDGES; i++) {
         printf("%-8" PRIu32, wheel_edges[i]);
         for (enum edge_use use = EDGE_FEW; use < EDGE_USES; use++) {

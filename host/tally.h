@@ -16,6 +16,7 @@ enum slot_kind { FIRST_PLACE, MIDDLE_PLACE, LAST_PLACE, OWN_SLOT, OTHERS_SLOT, S
 /* What should come out, by definition. */
 struct expected {
     uint64_t result; /* as the call returns it: plain for judging a task or a site, packed otherwise */
+    uint64_t quick;          /* packed, the verdict alone of a task that is judged, whatever its reply is like */
     uint64_t supply, margin; /* packed, at the offset of a count */
     uint8_t reply[SITE_REPLY_ROOM], marks[MARKS_ROOM];
     struct verdict verdict; /* of an accepted judging */
@@ -58,6 +59,46 @@ struct expected {
     X(SHARED_LEAST, "judged: the tick of the least margin would have more if every slot were the task's")              \
     X(OWNED_65, "judged: more than 64 slots of the task's, and strips drop")                                           \
     X(OWNED_512, "judged: 512 slots of the task's, and strips drop")                                                   \
+    X(QUICK_M_0, "verdict: firm with m 0, and all strips drop, but not from every offset")                             \
+    X(QUICK_ALL_FIRM, "verdict: firm with m 0, and all strips drop from every offset")                                 \
+    X(QUICK_ALL_NOT, "verdict: not firm, and all strips drop from every offset")                                       \
+    X(QUICK_BETWEEN_NOT, "verdict: not firm, all strips between two ticks drop, some on a tick don't")                 \
+    X(QUICK_PAINTED_FIRM, "verdict: firm with m = k")                                                                  \
+    X(QUICK_PAINTED_NOT, "verdict: not firm with m = k, and one strip drops")                                          \
+    X(QUICK_ONE_PAINTED, "verdict: firm with k = m = 1")                                                               \
+    X(QUICK_255, "verdict: not firm, 255 strips may drop and 256 do")                                                  \
+    X(QUICK_ZERO_FIRM, "verdict: firm, as many drop as may, first from offset 0")                                      \
+    X(QUICK_ZERO_NOT, "verdict: not firm by one strip, first from offset 0")                                           \
+    X(QUICK_ONE_FIRM, "verdict: firm, k 1, as many drop as may")                                                       \
+    X(QUICK_ONE_NOT, "verdict: not firm by one strip, k 1")                                                            \
+    X(QUICK_MOST_FIRM, "verdict: firm, k 1,024, as many drop as may, not all")                                         \
+    X(QUICK_MOST_NOT, "verdict: not firm by one strip, k 1,024, not all drop")                                         \
+    X(QUICK_WIDE_FIRM, "verdict: firm, as many drop as may, above 255, not all")                                       \
+    X(QUICK_WIDE_NOT, "verdict: not firm by one strip, above 255 drop, not all")                                       \
+    X(QUICK_RUN_FIRM, "verdict: firm, as many drop as may, one late run")                                              \
+    X(QUICK_RUN_NOT, "verdict: not firm by one strip, one late run")                                                   \
+    X(QUICK_SPARSE_FIRM, "verdict: firm, as many drop as may, few strips and late runs on a long wheel")               \
+    X(QUICK_SPARSE_NOT, "verdict: not firm by one strip, few strips and late runs on a long wheel, average open")      \
+    X(QUICK_RUNS_FIRM, "verdict: firm, as many drop as may, more than 64 late runs")                                   \
+    X(QUICK_RUNS_NOT, "verdict: not firm by one strip, more than 64 late runs")                                        \
+    X(QUICK_END_FIRM, "verdict: firm, as many drop as may, a late run goes over the wheel's end")                      \
+    X(QUICK_END_NOT, "verdict: not firm by one strip, a late run goes over the wheel's end")                           \
+    X(QUICK_DIVISOR_FIRM, "verdict: firm, as many drop as may, a common divisor of w and h above 1 and below w")       \
+    X(QUICK_DIVISOR_NOT, "verdict: not firm by one strip, a common divisor of w and h above 1 and below w")            \
+    X(QUICK_TURNS_FIRM, "verdict: firm, as many drop as may, h a multiple of w, not every tick late")                  \
+    X(QUICK_TURNS_NOT, "verdict: not firm by one strip, h a multiple of w, not every tick late")                       \
+    X(QUICK_BELOW_FIRM, "verdict: firm, k x late ticks below (k - m) x w, by w at most")                               \
+    X(QUICK_BELOW_NOT, "verdict: not firm, k x late ticks below (k - m) x w, by w at most")                            \
+    X(QUICK_EQUAL_FIRM, "verdict: firm, k x late ticks equal to (k - m) x w, not all late")                            \
+    X(QUICK_EQUAL_NOT, "verdict: not firm, k x late ticks equal to (k - m) x w, not all late")                         \
+    X(QUICK_ABOVE_NOT, "verdict: not firm, k x late ticks above (k - m) x w, by w at most")                            \
+    X(QUICK_FIRST_SHOWS, "verdict: not firm, and of several late runs the first alone leads to where it shows")        \
+    X(QUICK_MIDDLE_SHOWS, "verdict: not firm, and a late run between others alone leads to where it shows")            \
+    X(QUICK_LAST_SHOWS, "verdict: not firm, and of several late runs the last alone leads to where it shows")          \
+    X(QUICK_END_SHOWS, "verdict: not firm, and of several late runs one over the wheel's end alone leads there")       \
+    X(QUICK_PAST_64, "verdict: not firm, and a late run behind the 64th, not the last, alone leads to where it shows") \
+    X(QUICK_START_SHOWS, "verdict: not firm, k above 1, and only the first strip at a late run's start shows it")      \
+    X(QUICK_FINISH_SHOWS, "verdict: not firm, k above 1, and only the last strip at a late run's start shows it")      \
     X(NO_SLOTS, "accepted: no slot records")                                                                           \
     X(NULL_SLOTS, "accepted: NULL for slots")                                                                          \
     X(TOUCHING, "accepted: touching slots of the task's")                                                              \
@@ -291,6 +332,8 @@ struct expected {
     X(PAIR_BARE, "pair: no slot at all on one board, others' on the other")                                            \
     X(PAIR_MANY, "pair: more than 64 slots of the task's, and others'")                                                \
     X(PAIR_DROPS, "pair: some strips drop, not all")                                                                   \
+    X(PAIR_FIRM, "pair: firm, and strips drop")                                                                        \
+    X(PAIR_NOT_FIRM, "pair: not firm")                                                                                 \
     X(PAIR_TELLS, "pair: the two would have other supplies at the offset if every slot were the task's")               \
     X(PAIR_6, "pair refused 6 alike")                                                                                  \
     X(PAIR_7, "pair refused 7 alike")                                                                                  \
@@ -305,6 +348,7 @@ enum input_class { CLASSES(CLASS_ID) CLASS_COUNT };
 
 struct tally {
     uint64_t numbers[KINDS][NUMBERS];
+    uint64_t quick[NUMBERS];   /* the numbers beside the verdict alone */
     uint64_t answers[NUMBERS]; /* the numbers in the answers of sites */
     uint64_t bad_slots[KINDS][SLOT_NUMBERS][SLOT_KINDS]; /* by place and by owner; a site's records count as its own */
     uint64_t edges[WHEEL_EDGES][EDGE_USES];

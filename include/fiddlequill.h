@@ -15,6 +15,7 @@
  *                            painted (firm), and how near it came (the least
  *                            margin)
  *   fiddlequill_site         the same for every task of a site, in one call
+ *   fiddlequill_quick        just whether it is firm, yes or no
  *   fiddlequill_which_slot   which slot of a task's board is bad, and why
  *   fiddlequill_count        how many of k strips drop from one given offset
  *   fiddlequill_supply       the slot time that a strip at one given offset gets
@@ -22,7 +23,7 @@
  *   fiddlequill_grant        how many free slots, taken in number order, make
  *                            a task firm; it marks them
  *
- * All seven calls fail in one way: they refuse with a number from 1 to 19 and
+ * All eight calls fail in one way: they refuse with a number from 1 to 19 and
  * 0 stands for success. Every input gets an answer or a refusal; no content of
  * a buffer is undefined behaviour. What the caller must provide is memory: each
  * pointer has as many readable (reply, marks: writable) bytes as its length
@@ -208,6 +209,38 @@ uint32_t fiddlequill_site(const uint8_t *tasks, size_t tasks_len,
                           uint8_t *reply, size_t reply_len);
 
 /*
+ * Says whether a task is firm, and nothing else: yes exactly where the answer of
+ * fiddlequill_judge has firm 1. Gives the refusal number and firm, 1 or 0, packed
+ * in one number: take it apart with fiddlequill_number and fiddlequill_value.
+ *
+ *   task, task_len     one task record
+ *   slots, slots_len   the slot records that first and count point into
+ *
+ * Refusals in checking order: 1, 3, 19, 4, 14, then slot by slot 15, 16, 17, 18,
+ * then 6, 7, 8, 9, 10; each comes with firm 0, so look at the number first: only
+ * beside number 0 does firm 0 tell of a table that isn't good enough.
+ * Never written: anything.
+ *
+ * Success is certain when judging the same task and slots with a reply of 20
+ * bytes succeeds. Where that is refused, this call gives the same number.
+ *
+ * It is meant for a verdict that is asked for again and again while someone
+ * drags a slider: it stops as soon as the verdict is certain, so it is mostly
+ * faster than judging, and never much slower. How many strips drop, from where,
+ * and how near it came is what fiddlequill_judge tells.
+ *
+ *   uint64_t result = fiddlequill_quick(task, FIDDLEQUILL_TASK_BYTES,
+ *                                       slots, slots_len);
+ *   if (fiddlequill_number(result) != FIDDLEQUILL_OK)
+ *       puts(fiddlequill_meaning(fiddlequill_number(result)));
+ *   else
+ *       puts(fiddlequill_value(result) == 1 ? "firm" : "not firm");
+ */
+FIDDLEQUILL_CHECK
+uint64_t fiddlequill_quick(const uint8_t *task, size_t task_len,
+                           const uint8_t *slots, size_t slots_len);
+
+/*
  * Says which slot of a task's board is bad, whoever owns it, and why. The task's
  * other numbers (e, D, h, m and k) aren't looked at. Gives the refusal number and
  * a place, packed in one number: take it apart with fiddlequill_number and
@@ -225,9 +258,9 @@ uint32_t fiddlequill_site(const uint8_t *tasks, size_t tasks_len,
  * beside 15 to 18 is place 0 the board's first slot.
  * Never written: anything.
  *
- * Judging or counting the same task and slots gives the same number whenever it
- * gives 1, 3, 4 or 14 to 19, and gives none of these when this call gives 0
- * (judging gives 2 first when the reply is too short).
+ * Judging, fiddlequill_quick or counting on the same task and slots gives the
+ * same number whenever it gives 1, 3, 4 or 14 to 19, and gives none of these when
+ * this call gives 0 (judging gives 2 first when the reply is too short).
  *
  * To tell a supplier:
  *
@@ -335,9 +368,9 @@ static inline uint32_t fiddlequill_number(uint64_t packed)
     return (uint32_t)(packed >> 32);
 }
 
-/* The count, the supply, the granted slots or the bad slot's place in a packed
- * result, or the margin in two's complement; 0 beside a refusal that is about no
- * single slot. */
+/* The count, the supply, the granted slots, the bad slot's place or firm (1 or 0)
+ * in a packed result, or the margin in two's complement; 0 beside a refusal that
+ * is about no single slot. */
 static inline uint32_t fiddlequill_value(uint64_t packed)
 {
     return (uint32_t)(packed & 0xffffffffu);

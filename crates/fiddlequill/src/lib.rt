@@ -1,11 +1,12 @@
 // What the desk's C program calls. Every call takes any bytes and any 64-bit numbers; a number that doesn't fit is refused by its bound.
 ghost use mathlib.Core.Path.{_≡_};
+ghost use Rattle.rules.specs.Sums.{bit};
 ghost use Rattle.records.specs.Refusals.{pointRefusal};
 ghost use Rattle.judge.specs.Judge.{Judged};
 ghost use Rattle.octets.specs.Octets.{twos};
 ghost use Rattle.judge.specs.Points.{suppliedAt, marginAt, countedAt};
 ghost use Rattle.site.specs.Site.{Sited};
-ghost use Rattle.fiddlequill.specs.Packed.{packed, PackedWhich, PackedGrant};
+ghost use Rattle.fiddlequill.specs.Packed.{packed, PackedWhich, PackedQuick, PackedGrant};
 
 // The refusal number times 2^32 plus the other number.
 fn pack(number: u32, value: u32) -> u64
@@ -64,6 +65,22 @@ pub extern "C" fn fiddlequill_margin(task: &[u8], slots: &[u8], offset: u64) -> 
 {
     let measured = judge::margin(task, slots, offset);
     pack(measured.number, octets::twos(measured.margin))
+}
+
+// 1 for firm, else 0.
+fn bit(firm: bool) -> u32
+    ensures { λ r. ⌜ r ≡ bit firm ⌝ }
+{
+    if firm { 1 } else { 0 }
+}
+
+// Whether the task is firm; the refusal number and 1 or 0, packed.
+#[no_mangle]
+pub extern "C" fn fiddlequill_quick(task: &[u8], slots: &[u8]) -> u64
+    ensures { λ r. ⌜ PackedQuick (now (task .entry)) (now (slots .entry)) r ⌝ }
+{
+    let verdict = quick::quick(task, slots);
+    pack(verdict.number, bit(verdict.firm))
 }
 
 // Grants the first free slots; the refusal number and how many were granted, packed. A grant turns their marks into 2.

@@ -1,3 +1,5 @@
 pub mod Strips
 pub mod Draws
 mod Carried
+pub mod Places
+pub mod Rises

@@ -4,6 +4,7 @@
 --     Stretched m m′ a b v   m has become m′: v in the ticks from a to b, those before a as they were
 --     Mapped l m             m is drawn from the runs l of some set of ticks
 --     strips f w h n t       the sum of f over n ticks of a wheel of w, from t on in steps of h
+--     met w z h k p          how many of k strips from tick p on, in steps of h, meet a tick of the set z
 --     fallen m h k p         how many of k strips from tick p on meet a 1
 --     Top m h k c t          c is the largest such number, t the first tick that has it
 --     Sized m h k            a wheel of bits, a period and a number of strips within the bounds
@@ -29,6 +30,9 @@ Mapped l m = (z : Subset) × Laid l (length m) z × Drawn m z
 
 unfoldable pub strips : (ℕ → ℕ) → ℕ → ℕ → ℕ → ℕ → ℕ
 strips f w h n t = sum (λ i. f ((t + i * h) % w)) n
+
+unfoldable pub met : ℕ → Subset → ℕ → ℕ → ℕ → ℕ
+met w z h k p = strips (λ a. bit (z a)) w h k p
 
 unfoldable pub fallen : List ℕ → ℕ → ℕ → ℕ → ℕ
 fallen m h k p = strips (λ a. getD m a 0) (length m) h k p

@@ -21,16 +21,16 @@ use Rattle.limits.specs.Refusal.{_otherwise_, ifNone}
 use Rattle.limits.specs.Limits.{taskRefusal}
 use Rattle.limits.proofs.Refusals.{both-none, otherwise-none}
 use Rattle.records.specs.Records.{taskRecord, slotAt, slotOf, owned, board, boardOf, ticksOf, askedOf, answerBytes}
-use Rattle.records.specs.Refusals.{sizes, room, boardRefusal, bodyRefusal, beyond, judgeRefusal, pointRefusal, whichRefusal}
-use Rattle.records.specs.Lookup.{whole, part}
+use Rattle.records.specs.Refusals.{sizes, room, bodyRefusal, beyond, judgeRefusal, pointRefusal, whichRefusal}
+use Rattle.records.specs.Lookup.{part}
 use Rattle.judge.specs.Judge.{Judged}
 use Rattle.judge.specs.Points.{suppliedAt, marginAt, countedAt}
+use Rattle.quick.specs.Quick.{quickRefusal, Quick}
 use Rattle.walk.specs.Walk.{place}
 use Rattle.walk.proofs.Places.{part-le4}
-use Rattle.site.specs.Site.{Sited}
 use Rattle.fiddlequill.specs.Packed.{packed}
-use Rattle.promises.specs.Boards.{askedBytes, ownSlots, Twins, SameTicks, SameSlots, SameAnswers, OwnTicks, TicksTell, OthersAreSilent, SitesAgree}
-use Rattle.promises.proofs.Settled.{judge-settled}
+use Rattle.promises.specs.Boards.{askedBytes, ownSlots, Twins, SameTicks, SameSlots, SameAnswers, OwnTicks, TicksTell, OthersAreSilent, SitesAgree, VerdictsAgree}
+use Rattle.promises.proofs.Settled.{judge-settled, quick-settled}
 
 -- ---- the ticks of a task's own slots
 
@@ -124,6 +124,10 @@ module _ (task slots task′ slots′ : List ℕ) (twins : Twins task slots task
   unfolding pointRefusal
   same-point x = λ i. same-sizes i otherwise same-body i otherwise beyond (same-wheel i) x
 
+  same-quick : quickRefusal task slots ≡ quickRefusal task′ slots′
+  unfolding quickRefusal
+  same-quick = λ i. same-sizes i otherwise same-body i
+
   -- ---- the same ticks give the same answers
 
   module _ (same : SameTicks task slots task′ slots′) where
@@ -150,6 +154,14 @@ module _ (task slots task′ slots′ : List ℕ) (twins : Twins task slots task
               };
         }
 
+    same-quicked : (n : ℕ) (b : Bool) → Quick task slots n b → Quick task′ slots′ n b
+    same-quicked n b a =
+        record {
+          number = a .number ∙ same-quick;
+          refused = a .refused;
+          answered = λ none. coe 0 1 (i. (b ≡ true) ↔ Firm (same-ticks i) (same-asked i)) (a .answered none);
+        }
+
     same-answers : SameAnswers task slots task′ slots′
     unfolding suppliedAt marginAt countedAt
     same-answers =
@@ -169,12 +181,20 @@ ticks-tell = same-answers
 
 -- ---- the same slots do
 
-pub others-are-silent : OthersAreSilent
-others-are-silent task slots task′ slots′ twins same =
-    ticks-tell task slots task′ slots′ twins (λ x.
+slots-tell : (task slots task′ slots′ : List ℕ) → Twins task slots task′ slots′ → SameSlots task slots task′ slots′ → SameTicks task slots task′ slots′
+slots-tell task slots task′ slots′ twins same x =
     own-ticks (taskRecord task) slots x
     ∙ (λ i. usable (same-wheel task slots task′ slots′ twins i) (tableOf (same i)) x)
-    ∙ sym (own-ticks (taskRecord task′) slots′ x))
+    ∙ sym (own-ticks (taskRecord task′) slots′ x)
+
+pub others-are-silent : OthersAreSilent
+others-are-silent task slots task′ slots′ twins same =
+    ticks-tell task slots task′ slots′ twins (slots-tell task slots task′ slots′ twins same)
+
+pub verdicts-agree : VerdictsAgree
+verdicts-agree task slots task′ slots′ n n′ b b′ twins same one other =
+    quick-settled task′ slots′ n n′ b b′
+    (same-quicked task slots task′ slots′ twins (slots-tell task slots task′ slots′ twins same) n b one) other
 
 pub sites-agree : SitesAgree
 sites-agree tasks slots reply after tasks′ slots′ reply′ after′ i j a b less less′ twins same before =

@@ -1,18 +1,20 @@
 -- Numbers small enough for the bytes they are written in: counts, offsets, supplies, margins and refusals. Assumes nothing.
 use mathlib.Core.Path.{_≡_, refl, sym, ap, subst, _∙_}
 use mathlib.Core.Logic.{⊎-elim}
+use mathlib.Core.Bool.{Bool, true, false}
 use mathlib.Core.List.{List}
 use Prim.Native.Nat.{ℕ, _+_, _*_, _/_, _%_, _≤_, _<_}
 use native.Mathlib.Nat.{div-div-eq-div-mul, mul-le-mul}
 use native.Mathlib.Omega.{arith}
+use lib.Dec.{eqb}
 use lib.IntN.{ℤ, pos}
 use mir.Syntax.{w32}
 use mir.Val.{SFits}
-use Rattle.rules.specs.Sums.{Subset}
+use Rattle.rules.specs.Sums.{Subset, bit}
 use Rattle.rules.specs.Supply.{Task, supply, margin, drops, count}
 use Rattle.rules.specs.Worst.{Worst}
 use Rattle.rules.specs.Least.{Least}
-use Rattle.rules.proofs.Sums.{number-le}
+use Rattle.rules.proofs.Sums.{bit-le, number-le}
 use Rattle.rules.proofs.Signed.{mag-sub}
 use Rattle.octets.specs.Octets.{twos, signed}
 use Rattle.octets.proofs.Signs.{twos-small, signed-twos}
@@ -46,6 +48,19 @@ back4 x l =
 pub unpacked : (n x r : ℕ) → x < 4294967296 → r ≡ packed n x → (r / 4294967296 ≡ n) × (r % 4294967296 ≡ x)
 unfolding packed
 unpacked n x r l e = (omega arith, omega arith)
+
+-- ---- a verdict
+
+pub bit-back : (b : Bool) → eqb (bit b) 1 ≡ b
+unfolding bit
+bit-back true = refl
+bit-back false = refl
+
+pub unpacked-quick :
+    (n : ℕ) (b : Bool) (r : ℕ) → r ≡ packed n (bit b) → (r / 4294967296 ≡ n) × (eqb (r % 4294967296) 1 ≡ b)
+unpacked-quick n b r e =
+    let parts = unpacked n (bit b) r (omega (arith, bit-le b)) e in
+    (parts .0, ap (λ x. eqb x 1) (parts .1) ∙ bit-back b)
 
 -- ---- counts and offsets
 

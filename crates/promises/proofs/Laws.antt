@@ -1,6 +1,6 @@
 -- The statements of specs/Laws.antt. Assumes nothing.
 use mathlib.Core.Path.{_≡_, refl, sym, ap, _∙_}
-use mathlib.Core.Logic.{⊎-elim}
+use mathlib.Core.Logic.{_↔_, ⊎-elim}
 use mathlib.Core.Bool.{Bool, true, false, _&&_, cond}
 use mathlib.Core.List.{List}
 use Prim.Native.Nat.{ℕ, _+_, _-_, _*_, _≤_, _<_}
@@ -16,18 +16,20 @@ use Rattle.rules.specs.Supply.{Task, supply, margin, drops, count}
 use Rattle.rules.specs.Usable.{usable, grid}
 use Rattle.rules.specs.Worst.{Firm}
 use Rattle.rules.specs.Grant.{first, gridTicks, NoChoice}
-use Rattle.rules.proofs.Sums.{number-const, any-none}
+use Rattle.rules.proofs.Sums.{le-or-lt, number-const, any-none}
 use Rattle.rules.proofs.Step.{dropped-ltb}
 use Rattle.rules.proofs.Least.{margin-tick}
-use Rattle.limits.proofs.Refusals.{both-none, at-next, when-false, none-left}
+use Rattle.limits.specs.Refusal.{_otherwise_}
+use Rattle.limits.proofs.Refusals.{both-none, at-next, when-false, none-left, otherwise-none, clash}
 use Rattle.limits.proofs.Made.{task-within}
 use Rattle.limits.specs.Limits.{Within, taskOf}
-use Rattle.records.specs.Records.{taskRecord, ticksOf, askedOf}
-use Rattle.records.specs.Refusals.{pointRefusal, judgeRefusal, beyond}
+use Rattle.records.specs.Records.{replyBytes, taskRecord, ticksOf, askedOf}
+use Rattle.records.specs.Refusals.{sizes, room, pointRefusal, judgeRefusal, beyond}
 use Rattle.ticks.specs.Ticks.{freeOf}
 use Rattle.judge.specs.Points.{marginAt, countedAt}
+use Rattle.quick.specs.Quick.{quickRefusal}
 use Rattle.grants.specs.Grants.{grantRefusal, askedFor, Marked, GrantCall}
-use Rattle.promises.specs.Laws.{CountCertain, WorstCounted, LeastMeasured, GrantNone, GrantCertain}
+use Rattle.promises.specs.Laws.{CountCertain, WorstCounted, LeastMeasured, QuickAgrees, GrantNone, GrantCertain}
 use Rattle.promises.proofs.Bounds.{count-le, counted-most}
 
 -- ---- counting a task that was judged
@@ -58,6 +60,34 @@ least-measured task slots reply g accepted least =
       λ x inside. rw (at x inside) (least .bound 2 x (omega arith)),
       (least .place, least .inside, at (2 * least .place) (omega (arith, least .inside)) ∙ margin-tick u t (least .place) ∙ ap (λ z. pos 2 *ℤ z) (least .hit)),
     )
+
+-- ---- just yes or no
+
+-- With room for an answer both check the same refusals.
+same-refusal : (task slots reply : List ℕ) → replyBytes ≤ length reply → judgeRefusal task slots reply ≡ quickRefusal task slots
+unfolding judgeRefusal quickRefusal room
+same-refusal task slots reply long =
+    ap (λ n. sizes task slots otherwise n) (otherwise-none _ _ (when-false 2 _ (le-ltb _ _ long)))
+
+-- A bit and a truth value that say the same are the same.
+bit-says : {A : Type 0} (f : ℕ) (b : Bool) → (f ≤ 1) × ((f ≡ 1) ↔ A) → (b ≡ true) ↔ A → f ≡ bit b
+unfolding bit
+bit-says f true p q = p .1 .1 (q .0 refl)
+bit-says f false p q =
+    ⊎-elim
+    (λ (none : f ≤ 0). omega arith)
+    (λ (one : 0 < f). clash (q .1 (p .1 .0 (omega (arith, p .0)))) refl)
+    (le-or-lt f 0)
+
+pub quick-agrees : QuickAgrees
+unfolding bit
+quick-agrees task slots reply a n b long told quick =
+    let number : a .number ≡ n = told .number ∙ same-refusal task slots reply long ∙ sym (quick .number) in
+    (number, λ other. go number other (ℕ-discrete n 0))
+  where
+    go : a .number ≡ n → (n ≡ 1 → ⊥) → Dec (n ≡ 0) → a .firm ≡ bit b
+    go number other (yes none) = bit-says (a .firm) b (told .firm (number ∙ none)) (quick .answered none)
+    go number other (no bad) = told .zero (omega arith) .0 ∙ ap bit (sym (quick .refused bad))
 
 -- ---- no slots drop every strip
 

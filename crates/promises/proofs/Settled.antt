@@ -22,12 +22,13 @@ use Rattle.records.specs.Troubles.{aboutSlot, FirstAt, Placed}
 use Rattle.records.specs.declared.board.Trouble.{Trouble}
 use Rattle.judge.specs.Judge.{Judged, Answered}
 use Rattle.judge.specs.Points.{suppliedAt, marginAt, countedAt}
+use Rattle.quick.specs.Quick.{Quick}
 use Rattle.site.proofs.Laws as site
 use Rattle.grants.specs.Grants.{GrantCall, Marked, grantRefusal}
 use Rattle.lines.specs.Lines.{lineOf}
 use Rattle.sheets.specs.Sheets.{Row, Rows, none, more, Sheet, bad, rest}
 use Rattle.fiddlequill.specs.Packed.{packed}
-use Rattle.promises.specs.Settled.{JudgeSettled, SiteSettled, WhichSettled, PackedWhichSettled, PointSettled, PointsSettled, PackedPointSettled, PackedPointsSettled, GrantSettled, PackedSettled, LookupSettled, PutSettled, SheetSettled}
+use Rattle.promises.specs.Settled.{JudgeSettled, SiteSettled, WhichSettled, PackedWhichSettled, PointSettled, PointsSettled, PackedPointSettled, PackedPointsSettled, QuickSettled, PackedQuickSettled, GrantSettled, PackedSettled, LookupSettled, PutSettled, SheetSettled}
 
 -- ---- judging
 
@@ -116,6 +117,22 @@ packed-point value task slots x r r′ p q = p ∙ sym q
 pub packed-points-settled : PackedPointsSettled
 packed-points-settled =
     (packed-point suppliedAt, packed-point (λ task slots x. twos (marginAt task slots x)), packed-point countedAt)
+
+-- ---- just yes or no
+
+same-verdict : (task slots : List ℕ) (n : ℕ) (b b′ : Bool) → Quick task slots n b → Quick task slots n b′ → Dec (n ≡ 0) → b ≡ b′
+same-verdict task slots n b b′ a c (yes z) = same-bit b b′ (a .answered z) (c .answered z)
+same-verdict task slots n b b′ a c (no bad) = a .refused bad ∙ sym (c .refused bad)
+
+pub quick-settled : QuickSettled
+quick-settled task slots n n′ b b′ a c =
+    let number : n ≡ n′ = a .number ∙ sym (c .number) in
+    (number, same-verdict task slots n′ b b′ (rw number at a) c (ℕ-discrete n′ 0))
+
+pub packed-quick-settled : PackedQuickSettled
+packed-quick-settled task slots r r′ a b =
+    let same = quick-settled task slots _ _ _ _ (a .call) (b .call) in
+    a .result ∙ (λ i. packed (same .0 i) (bit (same .1 i))) ∙ sym (b .result)
 
 -- ---- granting
 

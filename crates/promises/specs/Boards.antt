@@ -1,4 +1,4 @@
--- docs/RULES.md, "One table for the board": what other owners' slots mean for a task. Definitions only: the last four names are statements,
+-- docs/RULES.md, "One table for the board": what other owners' slots mean for a task. Definitions only: the last five names are statements,
 -- shown in proofs/Boards.antt.
 --
 --     askedBytes              the bytes of a task record before first and count
@@ -12,10 +12,11 @@
 --     TicksTell               the same usable ticks give the same answers
 --     OthersAreSilent         the same slots give the same answers, however the other owners' slots differ
 --     SitesAgree              the same of a record in each of two sites
+--     VerdictsAgree           the same of the question just yes or no
 --
 -- The wheel stands in the task record, so twins have the same one.
 use mathlib.Core.Path.{_≡_}
-use mathlib.Core.Bool.{cond}
+use mathlib.Core.Bool.{Bool, cond}
 use mathlib.Core.List.{List, [], _∷_, _++_}
 use Prim.Native.Nat.{ℕ, zero, suc, _<_}
 use lib.ListN.{take}
@@ -26,6 +27,7 @@ use Rattle.records.specs.Lookup.{whole, part}
 use Rattle.records.specs.declared.TaskRecord.{TaskRecord}
 use Rattle.judge.specs.Judge.{Judged}
 use Rattle.judge.specs.Points.{suppliedAt, marginAt, countedAt}
+use Rattle.quick.specs.Quick.{Quick}
 use Rattle.walk.specs.Walk.{place}
 use Rattle.site.specs.Site.{Sited}
 
@@ -82,3 +84,9 @@ SitesAgree =
     → Sited tasks slots reply 0 after → Sited tasks′ slots′ reply′ 0 after′ → i < whole tasks → j < whole tasks′
     → Twins (part tasks i) slots (part tasks′ j) slots′ → SameSlots (part tasks i) slots (part tasks′ j) slots′
     → place reply i ≡ place reply′ j → place after i ≡ place after′ j
+
+abbrev pub VerdictsAgree : Type 0
+VerdictsAgree =
+    (task slots task′ slots′ : List ℕ) (n n′ : ℕ) (b b′ : Bool)
+    → Twins task slots task′ slots′ → SameSlots task slots task′ slots′ → Quick task slots n b → Quick task′ slots′ n′ b′
+    → (n ≡ n′) × (b ≡ b′)

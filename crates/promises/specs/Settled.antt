@@ -1,6 +1,7 @@
 -- docs/RULES.md, the demands: any two results that a public contract allows are equal, with every lent buffer at exit.
 -- Definitions only: a statement for each public function; proofs/Settled.antt shows them.
 use mathlib.Core.Path.{_≡_}
+use mathlib.Core.Bool.{Bool}
 use mathlib.Core.List.{List}
 use Prim.Native.Nat.{ℕ}
 use Rattle.records.specs.Refusals.{pointRefusal}
@@ -10,11 +11,12 @@ use Rattle.which.specs.Which.{Which}
 use Rattle.judge.specs.Judge.{Judged}
 use Rattle.octets.specs.Octets.{twos}
 use Rattle.judge.specs.Points.{suppliedAt, marginAt, countedAt}
+use Rattle.quick.specs.Quick.{Quick}
 use Rattle.site.specs.Site.{Sited}
 use Rattle.grants.specs.Grants.{GrantCall}
 use Rattle.lines.specs.Lines.{Put}
 use Rattle.sheets.specs.Sheets.{Filled}
-use Rattle.fiddlequill.specs.Packed.{packed, PackedWhich, PackedGrant}
+use Rattle.fiddlequill.specs.Packed.{packed, PackedWhich, PackedQuick, PackedGrant}
 
 -- judge::judge, fiddlequill_judge: the number and the reply.
 abbrev pub JudgeSettled : Type 0
@@ -56,6 +58,15 @@ PackedPointSettled value =
 abbrev pub PackedPointsSettled : Type 0
 PackedPointsSettled =
     PackedPointSettled suppliedAt × PackedPointSettled (λ task slots x. twos (marginAt task slots x)) × PackedPointSettled countedAt
+
+-- quick::quick: the number and the verdict.
+abbrev pub QuickSettled : Type 0
+QuickSettled =
+    (task slots : List ℕ) (n n′ : ℕ) (b b′ : Bool) → Quick task slots n b → Quick task slots n′ b′ → (n ≡ n′) × (b ≡ b′)
+
+-- fiddlequill_quick: the packed number.
+abbrev pub PackedQuickSettled : Type 0
+PackedQuickSettled = (task slots : List ℕ) (r r′ : ℕ) → PackedQuick task slots r → PackedQuick task slots r′ → r ≡ r′
 
 -- grants::grant: the number, j and the marks.
 abbrev pub GrantSettled : Type 0

@@ -50,3 +50,13 @@ pub fn count(task: &[u8], slots: &[u8], there: &[u8], board: &[u8], offset: u64)
         other: fiddlequill::fiddlequill_count(there, board, offset),
     }
 }
+
+pub fn quick(task: &[u8], slots: &[u8], there: &[u8], board: &[u8]) -> Packed
+    requires { ⌜ Twins (now task) (now slots) (now there) (now board) × SameSlots (now task) (now slots) (now there) (now board) ⌝ }
+    ensures { λ r. ⌜ r .one ≡ r .other ⌝ }
+{
+    Packed {
+        one: fiddlequill::fiddlequill_quick(task, slots),
+        other: fiddlequill::fiddlequill_quick(there, board),
+    }
+}

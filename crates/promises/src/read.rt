@@ -2,15 +2,18 @@
 ghost use mathlib.Core.Path.{_≡_};
 ghost use Prim.Native.Nat.{_+_, _*_, _/_, _%_, _≤_, _<_};
 ghost use lib.ListN.{length};
+ghost use Rattle.rules.specs.Sums.{bit};
 ghost use Rattle.records.specs.Records.{replyBytes};
 ghost use Rattle.records.specs.Refusals.{pointRefusal};
 ghost use Rattle.records.specs.Lookup.{whole};
 ghost use Rattle.which.specs.Which.{Which};
 ghost use Rattle.octets.specs.Octets.{le4, signed};
 ghost use Rattle.judge.specs.Points.{suppliedAt, marginAt, countedAt};
+ghost use Rattle.quick.specs.Quick.{Quick};
 ghost use Rattle.grants.specs.Grants.{GrantCall};
 ghost use Rattle.promises.specs.Answers.{Told, SiteTold};
 use judge::Measured;
+use quick::Verdict;
 use records::board::Trouble;
 
 // The number that judging gives, and the fields of the answer record.
@@ -28,6 +31,12 @@ pub struct Answer {
 pub struct Pair {
     pub number: u32,
     pub value: u32,
+}
+
+// What judging and the verdict alone say of one task.
+pub struct Pairing {
+    pub judged: Answer,
+    pub verdict: Verdict,
 }
 
 fn unpack(packed: u64) -> Pair
@@ -111,6 +120,27 @@ pub fn count(task: &[u8], slots: &[u8], offset: u64) -> Pair
     ensures { λ r. ⌜ (r .number ≡ pointRefusal (now (task .entry)) (now (slots .entry)) offset) × (r .value ≡ countedAt (now (task .entry)) (now (slots .entry)) offset) ⌝ }
 {
     unpack(fiddlequill::fiddlequill_count(task, slots, offset))
+}
+
+pub fn quick(task: &[u8], slots: &[u8]) -> Verdict
+    ensures { λ r. ⌜ Quick (now (task .entry)) (now (slots .entry)) (r .number) (r .firm) ⌝ }
+{
+    let parts = unpack(fiddlequill::fiddlequill_quick(task, slots));
+    Verdict {
+        number: parts.number,
+        firm: parts.value == 1,
+    }
+}
+
+// Both calls on one task: the verdict is the bit that judging writes, and the refusals are the same.
+pub fn both(task: &[u8], slots: &[u8], reply: &mut [u8]) -> Pairing
+    requires { ⌜ replyBytes ≤ length (now reply) ⌝ }
+    ensures { λ r. ⌜ r .judged .number ≡ r .verdict .number ⌝ }
+    ensures { λ r. ⌜ ((r .verdict .number ≡ 1 → ⊥) → r .judged .firm ≡ bit (r .verdict .firm)) ⌝ }
+{
+    let judged = judge(task, slots, reply);
+    let verdict = quick(task, slots);
+    Pairing { judged, verdict }
 }
 
 pub fn grant(marks: &mut [u8], v: u64, e: u64, d: u64, h: u64, m: u64, k: u64) -> Pair

@@ -5,6 +5,7 @@ use grants::Granted;
 use judge::Counted;
 use judge::Measured;
 use judge::Supplied;
+use quick::Verdict;
 use records::board::Trouble;
 use sheets::MOST_TEXT;
 
@@ -41,6 +42,11 @@ pub struct Margins {
 pub struct Counts {
     pub one: Counted,
     pub other: Counted,
+}
+
+pub struct Verdicts {
+    pub one: Verdict,
+    pub other: Verdict,
 }
 
 pub struct Grants {
@@ -101,6 +107,15 @@ pub fn count(task: &[u8], slots: &[u8], offset: u64) -> Counts
     Counts {
         one: judge::count(task, slots, offset),
         other: judge::count(task, slots, offset),
+    }
+}
+
+pub fn quick(task: &[u8], slots: &[u8]) -> Verdicts
+    ensures { λ r. ⌜ (r .one .number ≡ r .other .number) × (r .one .firm ≡ r .other .firm) ⌝ }
+{
+    Verdicts {
+        one: quick::quick(task, slots),
+        other: quick::quick(task, slots),
     }
 }
 
@@ -191,6 +206,15 @@ pub fn fiddlequill_count(task: &[u8], slots: &[u8], offset: u64) -> Packed
     Packed {
         one: fiddlequill::fiddlequill_count(task, slots, offset),
         other: fiddlequill::fiddlequill_count(task, slots, offset),
+    }
+}
+
+pub fn fiddlequill_quick(task: &[u8], slots: &[u8]) -> Packed
+    ensures { λ r. ⌜ r .one ≡ r .other ⌝ }
+{
+    Packed {
+        one: fiddlequill::fiddlequill_quick(task, slots),
+        other: fiddlequill::fiddlequill_quick(task, slots),
     }
 }
 

@@ -2,7 +2,7 @@
 -- lay out. Assumes nothing.
 use mathlib.Core.Path.{_≡_}
 use mathlib.Core.Logic.{_↔_}
-use mathlib.Core.Bool.{true}
+use mathlib.Core.Bool.{Bool, true}
 use mathlib.Core.List.{List}
 use Prim.Native.Nat.{ℕ, _≤_}
 use native.Mathlib.Omega.{arith}
@@ -10,13 +10,13 @@ use lib.ListN.{length, take}
 use lib.Seq.{length-take-le}
 use Rattle.rules.specs.Sums.{Subset}
 use Rattle.rules.specs.Supply.{count}
-use Rattle.rules.specs.Worst.{Worst, Firm, firmTest}
+use Rattle.rules.specs.Worst.{Worst, Firm}
 use Rattle.rules.specs.Least.{Least}
 use Rattle.limits.specs.Limits.{asked}
 use Rattle.limits.specs.declared.Task.{Task}
 use Rattle.runs.specs.Runs.{Laid, Runs, LaidIn}
 use Rattle.runs.proofs.Edges.{runs-of}
-use Rattle.room.specs.Room.{Foremost, Nearest, Found, Judges, Tallied}
+use Rattle.room.specs.Room.{Foremost, Nearest, Found, Decides, Tallied}
 use Rattle.room.specs.declared.Peak.{Peak}
 
 pub handed :
@@ -31,11 +31,10 @@ pub found :
 unfolding Foremost Nearest
 found l w t r f u laid = (f .0 u laid, f .1 u laid)
 
-pub judged :
-    (l : List ℕ) (w : ℕ) (t : Task) (c : ℕ) → Judges l w t c → (u : Subset) → Laid l w u
-    → (firmTest (asked t) c ≡ true) ↔ Firm u (asked t)
-unfolding Judges
-judged l w t c f = f
+pub decided :
+    (l : List ℕ) (w : ℕ) (t : Task) (b : Bool) → Decides l w t b → (u : Subset) → Laid l w u → (b ≡ true) ↔ Firm u (asked t)
+unfolding Decides
+decided l w t b f = f
 
 pub tallied :
     (l : List ℕ) (w : ℕ) (t : Task) (x c : ℕ) → Tallied l w t x c → (u : Subset) → Laid l w u → c ≡ count 2 u (asked t) x

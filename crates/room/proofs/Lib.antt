@@ -1,3 +1,4 @@
 pub mod Sides
 pub mod Ridges
+mod Verdicts
 pub mod Handed

@@ -1,40 +1,33 @@
--- From the largest count half a tick after a tick to the worst count and offset, and to the verdict.
+-- From the largest count half a tick after a tick to the worst count and offset.
 --
 -- A strip dropped at a tick is dropped half a tick before and after it, so only odd half ticks can be worse than all before them, and half
 -- tick 0, before which there is none.
--- In order: the ridge of late runs; no half tick is above it, and offsets; what is found; the verdict. Assumes nothing.
+-- In order: the ridge of late runs; no half tick is above it, and offsets; what is found. Assumes nothing.
 use mathlib.Core.Path.{_≡_, refl, sym, ap, _∙_}
-use mathlib.Core.Bool.{Bool, true, false}
 use mathlib.Core.List.{List}
 use Prim.Native.Nat.{ℕ, zero, suc, _+_, _-_, _*_, _/_, _%_, _≤_, _<_}
-use native.Mathlib.Nat.{le-antisymm, mod-lt, mul-zero, zero-mul, add-zero}
 use native.Mathlib.Omega.{arith}
-use lib.IntN.{ℤ, pos}
-use lib.Signed.{ltZ}
+use lib.IntN.{ℤ}
 use lib.ListN.{length, take}
 use mir.Syntax.{w32}
 use mir.Val.{SFits, toZ, ofZ}
 use mir.Facts.{toZ-ofZ}
 use lib.Seq.{length-take-le}
-use borrow.Author.Tests.{leb-true, le-leb}
-use Rattle.rules.specs.Sums.{Subset, bit}
+use Rattle.rules.specs.Sums.{Subset}
 use Rattle.rules.specs.Supply as rules
 use Rattle.rules.specs.Supply.{dropped, drops, count}
-use Rattle.rules.specs.Worst.{Wheel, Worst, Firm, firmTest}
-use Rattle.rules.specs.Least.{Painted}
-use Rattle.rules.proofs.Sums.{sum-const, number-const, number-longer, number-more, number-none}
-use Rattle.rules.proofs.Signed.{zero-le, not-zero-le}
+use Rattle.rules.specs.Worst.{Wheel, Worst}
 use Rattle.rules.proofs.Zones.{count-after, count-before}
-use Rattle.rules.proofs.Worst.{worst-of-best, worst-exists, firm-agrees}
-use Rattle.rules.proofs.Least.{least-tells, least-dropped}
+use Rattle.rules.proofs.Worst.{worst-of-best}
 use Rattle.limits.specs.Limits.{asked, mostTicks}
 use Rattle.limits.specs.declared.Task.{Task}
-use Rattle.runs.specs.Runs.{edge, Laid, Runs}
-use Rattle.runs.proofs.Edges.{edge-past}
-use Rattle.maps.specs.Maps.{Drawn, Top, strips}
+use Rattle.runs.specs.Runs.{Laid, Runs}
+use Rattle.maps.specs.Maps.{Drawn, Top}
+use Rattle.maps.proofs.Strips.{met-drawn}
+use Rattle.maps.proofs.Rises.{none-met}
 use Rattle.late.specs.Late.{LateIn}
-use Rattle.room.specs.Room.{Lent, Largest, met, Topped, Highest, Foremost, Nearest, Judges, Tallied}
-use Rattle.room.proofs.Sides.{from-side, met-drawn}
+use Rattle.room.specs.Room.{Lent, Largest, Topped, Highest, Foremost, Nearest, Tallied}
+use Rattle.room.proofs.Sides.{from-side}
 
 -- ---- the ridge of late runs
 
@@ -46,14 +39,6 @@ largest-same same top =
       hit = sym (same _ (top .inside)) ∙ top .hit;
       least = λ i s. rw (same i (omega (arith, top .inside))) at (top .least i s);
     }
-
--- Without runs no tick is met.
-none-met : (l : List ℕ) (w : ℕ) (z : Subset) → Laid l w z → length l ≡ 0 → (h k i : ℕ) → 0 ≡ met w z h k i
-unfolding met strips edge
-none-met l w z laid none h k i = sym (sum-const _ 0 k (λ n _. missed ((i + n * h) % w) (mod-lt (i + n * h) (laid .wheel .some))) ∙ mul-zero k)
-  where
-    missed : (a : ℕ) → a < w → bit (z a) ≡ 0
-    missed a s = laid .lay .alike 0 a (omega arith) (rw (edge-past l w 1 (omega arith)) s)
 
 pub topped-none : (l : List ℕ) (w h k : ℕ) → length l ≡ 0 → Topped l w h k 0 0
 unfolding Topped
@@ -120,7 +105,7 @@ highest-inside l w t late map c a lent high =
 -- ---- no half tick is above it, and offsets
 
 -- A half tick is a tick or half a tick after one.
-by-parity : (P : ℕ → Type 0) → ((a : ℕ) → P (2 * a)) → ((a : ℕ) → P (2 * a + 1)) → (x : ℕ) → P x
+pub by-parity : (P : ℕ → Type 0) → ((a : ℕ) → P (2 * a)) → ((a : ℕ) → P (2 * a + 1)) → (x : ℕ) → P x
 by-parity P even odd x = go (x / 2) (x % 2) (omega arith) (omega arith)
   where
     go : (a r : ℕ) → r < 2 → x ≡ 2 * a + r → P x
@@ -200,48 +185,6 @@ unfolding Highest Foremost Tallied
 found-half l w t c a n high zero-at tally other u laid =
     let start : Largest (λ i. count 2 u (asked t) (2 * i + 1)) w c 0 = rw zero-at at (high u laid) in
     worst-odd w u (asked t) start (laid .wheel) (λ _ e. other (tally u laid ∙ e))
-
--- ---- the verdict
-
--- The worst count tells, whatever its offset.
-pub judged : (l : List ℕ) (w : ℕ) (t : Task) (c a : ℕ) → Highest l w t c a → Judges l w t c
-unfolding Highest Judges
-judged l w t c a high u laid =
-    let r = high u laid in
-    let worst = worst-exists w u (laid .wheel) (asked t) in
-    let below : worst .0 ≤ c = rw (worst .2 .hit) at (ridge-bound w u (asked t) r (worst .1) (worst .2 .inside)) in
-    let above : c ≤ worst .0 = rw (r .hit) at (worst .2 .bound 2 (2 * a + 1) (omega arith)) in
-    rw (le-antisymm below above) at (firm-agrees w u (asked t) (worst .0) (worst .1) (worst .2))
-
--- Where all strips must be painted the sign of the least margin tells, as a signed local has it.
-module _ (l : List ℕ) (w : ℕ) (t : Task) (g : ℤ) (fits : SFits w32 g) (near : Nearest l w t g) (all : t .m ≡ t .k) (some : 0 < t .k) where
-  sign : (b : Bool) → ltZ (toZ w32 (ofZ w32 g)) (pos 0) ≡ b → ltZ g (pos 0) ≡ b
-  sign b e = ap (λ z. ltZ z (pos 0)) (sym (toZ-ofZ fits)) ∙ e
-
-  pub judged-painted : ltZ (toZ w32 (ofZ w32 g)) (pos 0) ≡ false → Judges l w t 0
-  unfolding Nearest Judges Painted Firm firmTest count drops bit
-  judged-painted above u laid = (
-    λ _ q p q+.
-        let painted = least-tells w u (asked t) g (near u laid) .0 (zero-le g (sign false above)) in
-        let none = number-const (λ i. dropped q u (asked t) (p + i * (q * t .h))) false (t .k) (λ i _. painted q (p + i * (q * t .h)) q+) in
-        omega (arith, none, mul-zero (t .k)),
-    λ _. le-leb 0 (t .k - t .m) (omega arith),
-  )
-
-  -- The strip with that margin drops, which is one too many.
-  pub judged-short : ltZ (toZ w32 (ofZ w32 g)) (pos 0) ≡ true → Judges l w t 1
-  unfolding Nearest Judges Firm firmTest count drops bit
-  judged-short below u laid = (
-    λ e. absurd (omega (arith, leb-true 1 (t .k - t .m) e)),
-    λ firm.
-        let least = near u laid in
-        let a : ℕ = least .place in
-        let strip : Subset = λ i. dropped 1 u (asked t) (a + i * (1 * t .h)) in
-        let late : dropped 1 u (asked t) a ≡ true = least-dropped w u (asked t) g least (not-zero-le g (sign true below)) in
-        let first : strip 0 ≡ true = rw (zero-mul, add-zero) late in
-        let one : bit (strip 0) ≡ 1 = ap bit first in
-        absurd (omega (arith, firm 1 a (omega arith), number-longer strip 1 (t .k) some, number-more strip 0, number-none strip)),
-  )
 
 pub tallied-none :
     {g : ℤ} (l : List ℕ) (w : ℕ) (t : Task) (x n : ℕ) (late late′ : List ℕ) → LateIn l w t (x % 2) late n g late′ → n ≡ 0 → Tallied l w t x 0

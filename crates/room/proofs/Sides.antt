@@ -19,10 +19,10 @@ use Rattle.rules.proofs.Step.{dropped-turns}
 use Rattle.limits.specs.Limits.{asked, Within, mostPeriod, mostStrips}
 use Rattle.limits.specs.declared.Task.{Task}
 use Rattle.runs.specs.Runs.{Laid, Runs}
-use Rattle.maps.specs.Maps.{Drawn, Mapped, Sized, strips, fallen}
-use Rattle.maps.proofs.Strips.{strips-cong}
+use Rattle.maps.specs.Maps.{Drawn, Mapped, Sized, strips, met, fallen}
+use Rattle.maps.proofs.Strips.{met-drawn}
 use Rattle.late.specs.Late.{lateRoom, LateIn}
-use Rattle.room.specs.Room.{Lent, met, Tallied}
+use Rattle.room.specs.Room.{Lent, Tallied}
 
 -- ---- late ticks
 
@@ -45,11 +45,6 @@ from-side w u wheel t side n x =
     ap bit (side-turns w u wheel t side y ∙ ap (dropped 2 u t) arrives))
 
 -- ---- a map of them
-
-pub met-drawn :
-    (m : List ℕ) (z : Subset) → Drawn m z → 0 < length m → (h n x : ℕ) → fallen m h n x ≡ met (length m) z h n x
-unfolding fallen met
-met-drawn m z drawn some h n x = strips-cong _ _ (length m) h n x some (drawn .at)
 
 drawn-bits : (m : List ℕ) (z : Subset) → Drawn m z → (a : ℕ) → getD m a 0 ≤ 1
 drawn-bits m z drawn a =
@@ -83,15 +78,20 @@ pub lent-part :
 lent-part l w t late map A (runs, within, room, long, _) =
     record { runs = runs; within = within; room = room; long = length-take-le w map long }
 
--- The late runs are runs of some set on a wheel as long as the map, and have no more edges than it has ticks.
+-- The late runs are runs of some set, and have no more edges than the wheel has ticks.
+pub late-runs :
+    {l : List ℕ} {w : ℕ} {t : Task} {side n : ℕ} {g : ℤ} {late late′ : List ℕ} → Runs l w → LateIn l w t side late n g late′
+    → Runs (take n late′) w × (length (take n late′) ≤ w)
+unfolding Runs
+late-runs {t = t} {side} {n} {late′ = late′} runs lates = (
+  (λ a. dropped 2 (runs .0) (asked t) (2 * a + side), lates .laid (runs .0) (runs .1)),
+  omega (arith, length-take-le n late′ (lates .room), lates .few),
+)
+
 pub lates-runs :
     {l : List ℕ} {w : ℕ} {t : Task} {side n : ℕ} {g : ℤ} {late late′ map : List ℕ} → Lent l w t late map
     → LateIn l w t side late n g late′ → Runs (take n late′) (length map) × (length (take n late′) ≤ length map)
-unfolding Runs
-lates-runs {t = t} {side} {n} {late′ = late′} lent lates = (
-  (λ a. dropped 2 (lent .runs .0) (asked t) (2 * a + side), rw (lent .long) (lates .laid (lent .runs .0) (lent .runs .1))),
-  omega (arith, length-take-le n late′ (lates .room), lates .few, lent .long),
-)
+lates-runs lent lates = rw (lent .long) (late-runs (lent .runs) lates)
 
 -- ---- a count
 

@@ -6,33 +6,33 @@
 --     Doubles n a b c d         arrays to double in on n ticks: a and b of bytes, c and d of 16 bits
 --     Lends n l m a b c d       all that a caller lends for wheels of up to n ticks: l for late runs, m for a map, the others to double in
 --     Largest f w c a           c is the largest of the values of f below w, and a is the first place that has it
---     met w z h k p             how many of k strips from tick p on, in steps of h, meet a tick of the set z
---     Topped l w h k c a        the largest such number for every set that the runs l lay out, and the first tick that has it
+--     Topped l w h k c a        the largest number of k strips that meet a set, for every set that the runs l lay out, and the first tick that has it
 --     Outlined l m h k o        that number is known, or the map m is drawn, and the largest count along it is that number
 --     Highest l w t c a         the largest count half a tick after a tick, for every set of ticks that the runs lay out, and the first such tick
 --     Foremost l w t c o        c is the worst count and o the worst offset (rule 6) of every such set
 --     Nearest l w t g           g is the least margin of every such set
 --     Found l w t r             r has both
---     Judges l w t c            rule 7's test on c says whether such a set is firm
+--     Bears l w h k a b         b says whether from every tick no more than a of k strips meet a set that the runs l lay out
+--     Decides l w t b           b says whether such a set of usable ticks is firm (rule 7)
 --     Tallied l w t x c         c strips are dropped from half tick x (rule 4), for every such set
---     Told l w t ask r          the answer to what was asked: the worst, a number to tell firm by, or the count from a half tick
+--     Told l w t ask r          the answer to what was asked: the worst, or the count from a half tick
 --
 -- Side 0 is at the ticks, side 1 half a tick after them.
 use mathlib.Core.Path.{_≡_}
 use mathlib.Core.Logic.{_↔_}
-use mathlib.Core.Bool.{true}
+use mathlib.Core.Bool.{Bool, true}
 use mathlib.Core.List.{List}
 use Prim.Native.Nat.{ℕ, _+_, _*_, _≤_, _<_, min}
 use lib.IntN.{ℤ}
 use lib.ListN.{length}
-use Rattle.rules.specs.Sums.{Subset, bit}
+use Rattle.rules.specs.Sums.{Subset}
 use Rattle.rules.specs.Supply.{count}
-use Rattle.rules.specs.Worst.{Worst, Firm, firmTest}
+use Rattle.rules.specs.Worst.{Worst, Firm}
 use Rattle.rules.specs.Least.{Least}
 use Rattle.limits.specs.Limits.{mostSlots, asked, Within}
 use Rattle.limits.specs.declared.Task.{Task}
 use Rattle.runs.specs.Runs.{Laid, Runs}
-use Rattle.maps.specs.Maps.{Sized, Top, strips}
+use Rattle.maps.specs.Maps.{Sized, Top, met}
 use Rattle.late.specs.Late.{lateRoom}
 use Rattle.room.specs.declared.Ask.{Ask}
 use Rattle.room.specs.declared.Ask.the-variants as ask
@@ -69,9 +69,6 @@ pub record Largest (f : ℕ → ℕ) (w c a : ℕ) : Type 0 where
   pub hit : f a ≡ c
   pub least : (i : ℕ) → i < a → f i < c
 
-unfoldable pub met : ℕ → Subset → ℕ → ℕ → ℕ → ℕ
-met w z h k p = strips (λ a. bit (z a)) w h k p
-
 unfoldable pub Topped : List ℕ → ℕ → ℕ → ℕ → ℕ → ℕ → Type 0
 Topped l w h k c a = (z : Subset) → Laid l w z → Largest (met w z h k) w c a
 
@@ -91,19 +88,20 @@ Nearest l w t g = (u : Subset) → Laid l w u → Least w u (asked t) g
 abbrev pub Found : List ℕ → ℕ → Task → Peak → Type 0
 Found l w t r = Foremost l w t (r .drops) (r .offset) × Nearest l w t (r .margin)
 
-unfoldable pub Judges : List ℕ → ℕ → Task → ℕ → Type 0
-Judges l w t c = (u : Subset) → Laid l w u → (firmTest (asked t) c ≡ true) ↔ Firm u (asked t)
+unfoldable pub Bears : List ℕ → ℕ → ℕ → ℕ → ℕ → Bool → Type 0
+Bears l w h k a b = (z : Subset) → Laid l w z → (b ≡ true) ↔ ((p : ℕ) → p < w → met w z h k p ≤ a)
+
+unfoldable pub Decides : List ℕ → ℕ → Task → Bool → Type 0
+Decides l w t b = (u : Subset) → Laid l w u → (b ≡ true) ↔ Firm u (asked t)
 
 unfoldable pub Tallied : List ℕ → ℕ → Task → ℕ → ℕ → Type 0
 Tallied l w t x c = (u : Subset) → Laid l w u → c ≡ count 2 u (asked t) x
 
 abbrev pub Told : List ℕ → ℕ → Task → Ask → Peak → Type 0
 Told l w t ask.Worst r = Found l w t r
-Told l w t ask.Verdict r = Judges l w t (r .drops)
 Told l w t (ask.From x) r = Tallied l w t x (r .drops)
 
 -- A question asks within the wheel.
 abbrev pub Asked : ℕ → Ask → Type 0
 Asked w ask.Worst = Unit {0}
-Asked w ask.Verdict = Unit {0}
 Asked w (ask.From x) = x < 2 * w

@@ -1,23 +1,21 @@
 // Every array as long as a wheel, in sizes, so that a small wheel doesn't clear a large one's. Whatever is asked of runs and a task is found in
 // what the room lends.
 mod doubled;
+mod drawn;
 mod work;
 
-ghost use mathlib.Core.Path.{_≡_};
 ghost use Prim.Native.Nat.{_*_, _≤_, _<_};
 ghost use lib.ListN.{length};
 ghost use Rattle.limits.specs.Limits.{mostTicks, Within};
 ghost use Rattle.runs.specs.Runs.{Runs};
-ghost use Rattle.room.specs.Room.{mostEdges, fewEdges, Lends, Found, Judges, Tallied, Asked, Told};
+ghost use Rattle.room.specs.Room.{mostEdges, fewEdges, Lends, Found, Decides, Tallied, Asked, Told};
 use limits::Task;
 use limits::Wheel;
 use maps::Crest;
 
-// What is asked of the runs of a wheel and a task: the worst count and offset with the least margin, a number to tell firm by, or the count from a
-// half tick.
+// What is asked of the runs of a wheel and a task: the worst count and offset with the least margin, or the count from a half tick.
 pub enum Ask {
     Worst,
-    Verdict,
     From(usize),
 }
 
@@ -148,25 +146,20 @@ pub fn worst_in(
     work::settle(runs, w, task, top, late, part)
 }
 
-// Needs no array as long as the wheel.
-fn quick(runs: &[u16], w: usize, task: Task) -> u32
-    requires { ⌜ Runs (now runs) w × Within task × (length (now runs) ≤ fewEdges) × (task .m ≡ task .k) ⌝ }
-    ensures { λ r. ⌜ Judges (now (runs .entry)) w task r ⌝ }
+// Whether the runs are firm (rule 7), by as little work as tells: mostly no array as long as the wheel. With m 0 every strip may drop.
+pub fn firm(runs: &[u16], w: usize, task: Task) -> bool
+    requires { ⌜ Runs (now runs) w × Within task × (length (now runs) ≤ mostEdges) ⌝ }
+    ensures { λ r. ⌜ Decides (now (runs .entry)) w task r ⌝ }
 {
-    let mut late = [0u16; FEW_LATE];
-    work::quick(runs, w, task, &mut late)
-}
-
-// At most k − m exactly when the runs are firm (rule 7): the worst count, or less work where less tells. Grants ask it, and they have few edges.
-pub fn verdict(runs: &[u16], w: usize, task: Task) -> u32
-    requires { ⌜ Runs (now runs) w × Within task × (length (now runs) ≤ fewEdges) ⌝ }
-    ensures { λ r. ⌜ Judges (now (runs .entry)) w task r ⌝ }
-{
-    if task.m == task.k {
-        return quick(runs, w, task);
+    if task.m == 0 {
+        return true;
     }
-    let p = told(runs, w, task, Ask::Verdict);
-    p.drops
+    if runs.len() <= FEW_EDGES {
+        let mut few = [0u16; FEW_LATE];
+        return work::firm(runs, w, task, &mut few);
+    }
+    let mut late = [0u16; LATE_EDGES];
+    work::firm(runs, w, task, &mut late)
 }
 
 // How many of the k strips from half tick x are dropped (rule 4).

@@ -1,16 +1,18 @@
 // The work, in buffers that the caller lends in any state: a size is only who lends them.
 ghost use mathlib.Core.Path.{_≡_};
-ghost use Prim.Native.Nat.{_+_, _*_, _≤_, _<_, min};
+ghost use Prim.Native.Nat.{_+_, _-_, _*_, _≤_, _<_, min};
 ghost use lib.ListN.{length};
 ghost use Rattle.limits.specs.Limits.{mostTicks, mostPeriod, mostStrips, Within};
 ghost use Rattle.runs.specs.Runs.{Runs};
 ghost use Rattle.late.specs.Late.{lateRoom};
-ghost use Rattle.room.specs.Room.{Lent, Doubles, Outlined, Highest, Foremost, Nearest, Found, Judges, Tallied, Asked, Told};
+ghost use Rattle.room.specs.Room.{Lent, Doubles, Outlined, Topped, Highest, Foremost, Nearest, Found, Bears, Decides, Tallied, Asked, Told};
 use crate::Ask;
 use crate::Outline;
 use crate::Peak;
 use crate::Summit;
 use crate::doubled;
+use crate::drawn;
+use excess::Outcome;
 use limits::Task;
 use maps::Crest;
 
@@ -61,6 +63,28 @@ fn summit(c: Crest, margin: i32) -> Summit
         at: c.at,
         margin,
     }
+}
+
+// The largest count of k strips along late runs, in the room's own arrays where it takes doubling.
+fn crest(late: &[u16], map: &mut [u8], h: usize, k: usize) -> Crest
+    requires { ⌜ Runs (now late) (length (now map)) × (length (now late) ≤ length (now map)) ⌝ }
+    requires { ⌜ (h ≤ mostPeriod) × (0 < k) × (k ≤ mostStrips) ⌝ }
+    ensures { λ r. ⌜ Topped (now (late .entry)) (length (now (map .entry))) h k (r .drops) (r .at) ⌝ }
+{
+    match outline(late, map, h, k) {
+        Outline::Known(c) => c,
+        Outline::Drawn => doubled::doubled(map, h, k),
+    }
+}
+
+// The same on the part of a map that is as long as the wheel.
+pub fn top(late: &[u16], w: usize, h: usize, k: usize, map: &mut [u8]) -> Crest
+    requires { ⌜ Runs (now late) w × (length (now late) ≤ w) × (w ≤ length (now map)) ⌝ }
+    requires { ⌜ (h ≤ mostPeriod) × (0 < k) × (k ≤ mostStrips) ⌝ }
+    ensures { λ r. ⌜ Topped (now (late .entry)) w h k (r .drops) (r .at) ⌝ }
+{
+    let part = &mut map[..w];
+    crest(late, part, h, k)
 }
 
 // The largest count half a tick after a tick, in the room's own arrays where it takes doubling, and the least margin.
@@ -168,25 +192,33 @@ fn worst(runs: &[u16], w: usize, task: Task, late: &mut [u16], map: &mut [u8]) -
     settle(runs, w, task, top, late, map)
 }
 
-// The worst count alone: whatever its offset, it tells whether the runs are firm.
-fn verdict(runs: &[u16], w: usize, task: Task, late: &mut [u16], map: &mut [u8]) -> u32
-    requires { ⌜ Lent (now runs) w task (now late) (now map) ⌝ }
-    ensures { λ r. ⌜ Judges (now (runs .entry)) w task r ⌝ }
+// Whether along late runs no more than k − m strips drop from any tick: a search tells, or else the largest count.
+fn bears(late: &[u16], w: usize, task: Task) -> bool
+    requires { ⌜ Runs (now late) w × (length (now late) ≤ w) × Within task ⌝ }
+    ensures { λ r. ⌜ Bears (now (late .entry)) w (task .h) (task .k) (task .k - task .m) r ⌝ }
 {
-    let top = ridge(runs, w, task, late, map);
-    top.drops
+    let allowed = task.k - task.m;
+    match excess::search(late, w, task.h, task.k, allowed) {
+        Outcome::Passed => false,
+        Outcome::Never => true,
+        Outcome::Spent => {
+            let c = drawn::top(late, w, task.h, task.k);
+            c.drops as usize <= allowed
+        }
+    }
 }
 
-// The verdict where every strip must be painted: the least margin tells whether one drops, so no map is needed.
-pub fn quick(runs: &[u16], w: usize, task: Task, late: &mut [u16]) -> u32
-    requires { ⌜ Runs (now runs) w × Within task × (min (lateRoom (length (now runs))) w ≤ length (now late)) × (task .m ≡ task .k) ⌝ }
-    ensures { λ r. ⌜ Judges (now (runs .entry)) w task r ⌝ }
+// Whether the runs are firm. Where the least margin isn't below zero no strip drops.
+pub fn firm(runs: &[u16], w: usize, task: Task, late: &mut [u16]) -> bool
+    requires { ⌜ Runs (now runs) w × Within task × (min (lateRoom (length (now runs))) w ≤ length (now late)) ⌝ }
+    ensures { λ r. ⌜ Decides (now (runs .entry)) w task r ⌝ }
 {
     let pass = late::late(runs, w, task, 1, late);
     if counts::dropped(pass.margin) {
-        return 1;
+        let n = pass.edges;
+        return bears(&late[..n], w, task);
     }
-    0
+    true
 }
 
 // Answers what is asked, on the part of the map that is as long as the wheel.
@@ -197,11 +229,6 @@ pub fn tell(runs: &[u16], w: usize, task: Task, ask: Ask, late: &mut [u16], map:
     let part = &mut map[..w];
     match ask {
         Ask::Worst => worst(runs, w, task, late, part),
-        Ask::Verdict => Peak {
-            drops: verdict(runs, w, task, late, part),
-            offset: 0,
-            margin: 0,
-        },
         Ask::From(x) => Peak {
             drops: count(runs, w, task, x, late, part),
             offset: 0,

@@ -1,3 +1,2 @@
-pub mod Places
 pub mod Slides
 pub mod Complete

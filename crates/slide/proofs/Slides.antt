@@ -5,16 +5,16 @@ use mathlib.Core.Path.{_≡_, refl, sym, ap, _∙_}
 use mathlib.Core.Logic.{inl, inr, ⊎-elim}
 use mathlib.Core.List.{List}
 use Prim.Native.Nat.{ℕ, suc, _+_, _-_, _*_, _%_, _≤_, _<_, max, zero-le}
-use native.Mathlib.Nat.{add-comm, one-mul, add-mod-mod, mod-lt, max-eq-left, max-eq-right, le-refl}
+use native.Mathlib.Nat.{add-mod-mod, mod-lt, max-eq-left, max-eq-right, le-refl}
 use native.Mathlib.Omega.{arith}
 use lib.ListN.{length, getD}
 use Rattle.limits.specs.Limits.{mostTicks, mostStrips}
 use Rattle.rules.proofs.Sums.{le-or-lt}
 use Rattle.runs.specs.Runs.{edge}
-use Rattle.maps.specs.Maps.{strips, fallen}
-use Rattle.maps.proofs.Strips.{strips-one, strips-add, fallen-none, fallen-more, fallen-most}
+use Rattle.maps.specs.Maps.{fallen}
+use Rattle.maps.proofs.Strips.{strips-front, strips-back, fallen-none, fallen-most}
 use Rattle.slide.specs.Slides.{NoBetter, Seen, Hit, Pick, Ranked, Slid, Round}
-use Rattle.slide.proofs.Places.{place-first, place-next, place-before, one-place}
+use Rattle.maps.proofs.Places.{place-first, place-before, one-place, place-behind}
 
 -- ---- which is better
 
@@ -43,22 +43,16 @@ pick-hit pick old new = ⊎-elim (λ w. rw (w .0, w .1) old) (λ w. rw (w .0, w 
 
 -- ---- a step back
 
--- One strip more in front.
 front-more :
     (m : List ℕ) (s n : ℕ) {p p′ : ℕ} → p′ < length m → p ≡ (p′ + s) % length m → fallen m s (n + 1) p′ ≡ getD m p′ 0 + fallen m s n p
 unfolding fallen
-front-more m s n {p} {p′} inside back =
-    let f : ℕ → ℕ = λ a. getD m a 0 in
-    let w = length m in
-    let rest : strips f w s n ((p′ + 1 * s) % w) ≡ strips f w s n p = ap (strips f w s n) (rw one-mul (sym back)) in
-    let both : strips f w s (1 + n) p′ ≡ strips f w s (n + 1) p′ = ap (λ i. strips f w s i p′) (add-comm 1 n) in
-    omega (arith, strips-add f w s 1 n p′, strips-one f w s p′ inside)
+front-more m s n inside back = strips-front (λ a. getD m a 0) (length m) s n inside back
 
 step-count :
     (m : List ℕ) (s k : ℕ) {p p′ q′ : ℕ} → p′ < length m → p ≡ (p′ + s) % length m → q′ ≡ (p′ + k * s) % length m
     → fallen m s k p + getD m p′ 0 ≡ fallen m s k p′ + getD m q′ 0
-step-count m s k {p} {p′} inside back last =
-    omega (arith, front-more m s k inside back, fallen-more m s k p′, ap (λ a. getD m a 0) last)
+unfolding fallen
+step-count m s k inside back last = strips-back (λ a. getD m a 0) (length m) s k inside back last
 
 -- ---- ranks
 
@@ -145,11 +139,7 @@ module _
     {m : List ℕ} {s k start top drops gone p q n p′ q′ : ℕ} (round : Round m s k) (b : Back m s k start top drops gone p q n)
     (front : (p′ < length m) × (p ≡ (p′ + s) % length m)) (last : (q′ < length m) × (q ≡ (q′ + s) % length m)) where
   step-behind : q′ ≡ (p′ + k * s) % length m
-  step-behind =
-      let w = length m in
-      let same : (q′ + s) % w ≡ ((p′ + k * s) % w + s) % w =
-      sym (last .1) ∙ b .behind ∙ sym (place-before w p p′ k s (front .1)) ∙ sym (place-next w p′ k s) in
-      one-place s (last .0) (mod-lt _ (omega arith)) same
+  step-behind = place-behind s k front last (b .behind)
 
   back-counts : drops + fallen m s k start + getD m p′ 0 ≡ fallen m s k p′ + (k + 1) + getD m q′ 0
   back-counts = omega (arith, step-count m s k (front .0) (front .1) step-behind, b .here .count)

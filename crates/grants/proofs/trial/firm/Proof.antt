@@ -3,31 +3,30 @@
 use mathlib.Core.Path.{sym}
 use native.Mathlib.Omega.{arith}
 use lib.Seq.{length-take-le}
-use Rattle.room.specs.Room.{fewEdges}
-use Rattle.room.proofs.Handed.{handed, judged}
+use Rattle.room.specs.Room.{mostEdges}
+use Rattle.room.proofs.Handed.{handed, decided}
 use Rattle.grants.proofs.Trials.{trial-says}
 use borrow.Author.Needs.{needs}
 use Rattle.grants.proofs.trial.firm.Statement.{statement}
 use Rattle.grants.proofs.trial.firm.Tie as tie
 
-slice-aggregate-verdict : tie.Need-slice-aggregate-verdict
-slice-aggregate-verdict c = sym (length-take-le _ _ (c .before .before .before .grid .ensures .room))
+slice-aggregate-firm : tie.Need-slice-aggregate-firm
+slice-aggregate-firm c = sym (length-take-le _ _ (c .before .before .before .grid .ensures .room))
 
-verdict-requires : tie.Need-verdict-requires
-verdict-requires c κs =
+firm-requires : tie.Need-firm-requires
+firm-requires c κs =
     let laid = c .before .before .before in
     let start = laid .before .before .before .before in
-    let runs = handed {most = fewEdges} (laid .grid .ensures) (omega (arith, start .pre .2)) in
+    let runs = handed {most = mostEdges} (laid .grid .ensures) (omega (arith, start .pre .2)) in
     (runs .0, start .pre .1, runs .1)
 
 returns : tie.Need-returns
 returns c =
-    let found = c .before in
-    let laid = found .before .before .before .before in
-    rw (c .allowed .ensures) (trial-says _ _ _ _ _ (judged _ _ _ _ (found .verdict .ensures) _ (laid .grid .ensures .laid)))
+    let laid = c .before .before .before .before in
+    trial-says _ _ _ _ _ (decided _ _ _ _ (c .firm .ensures) _ (laid .grid .ensures .laid))
 
 pub firm-spec : {M : Type 1} → statement M
 firm-spec =
     tie.close
-    (tie.spec (λ c κs. search needs) (λ c. search needs) slice-aggregate-verdict (λ c. search needs) verdict-requires
-    (λ c κs. search needs) (λ c. search needs) returns)
+    (tie.spec (λ c κs. search needs) (λ c. search needs) slice-aggregate-firm (λ c. search needs) firm-requires
+    (λ c. search needs) returns)

@@ -12,9 +12,6 @@ slice-aggregate-part c = sym (length-take-le _ _ (c .before .before .before .bef
 worst-requires : tie.Need-worst-requires
 worst-requires c κs = lent-part _ _ _ _ _ _ (c .before .before .before .before .before .before .before .pre)
 
-verdict-requires : tie.Need-verdict-requires
-verdict-requires c κs = lent-part _ _ _ _ _ _ (c .before .before .before .before .before .before .before .pre)
-
 count-requires : tie.Need-count-requires
 count-requires c κs =
     let start = c .before .before .before .before .before .before .before .before in
@@ -24,14 +21,10 @@ returns : tie.Need-returns
 returns c = rw (c .before .before .before .before .before .before .enum-told .given .1) (c .before .before .before .before .worst .ensures)
 
 returns-2 : tie.Need-returns-2
-returns-2 c = rw (c .before .before .before .before .before .before .enum-told2 .given .1) (c .before .before .before .before .verdict .ensures)
-
-returns-3 : tie.Need-returns-3
-returns-3 c = rw (c .before .before .before .before .before .before .before .ask .given .1) (c .before .before .before .before .count .ensures)
+returns-2 c = rw (c .before .before .before .before .before .before .before .ask .given .1) (c .before .before .before .before .count .ensures)
 
 pub tell-spec : {M : Type 1} → statement M
 tell-spec =
     tie.close
-    (tie.spec (λ c. search needs) slice-aggregate-part (λ c. search needs) worst-requires (λ c. search needs) verdict-requires
-    (λ c. search needs) count-requires (λ c. search needs) (λ c. search needs) returns (λ c. search needs) (λ c. search needs)
-    returns-2 (λ c. search needs) (λ c. search needs) returns-3)
+    (tie.spec (λ c. search needs) slice-aggregate-part (λ c. search needs) worst-requires (λ c. search needs) count-requires
+    (λ c. search needs) (λ c. search needs) returns (λ c. search needs) (λ c. search needs) returns-2)

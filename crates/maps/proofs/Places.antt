@@ -43,3 +43,11 @@ one-place {a} {b} {w} s la lb e =
     (λ (x : (a + r) % w + w ≡ a + r).
     ⊎-elim (λ (y : (b + r) % w ≡ b + r). omega arith) (λ (y : (b + r) % w + w ≡ b + r). omega arith) (once-round lb lr))
     (once-round la lr)
+
+-- The place behind k strips goes back with them.
+pub place-behind :
+    {w p p′ q q′ : ℕ} (s k : ℕ) → (p′ < w) × (p ≡ (p′ + s) % w) → (q′ < w) × (q ≡ (q′ + s) % w) → q ≡ (p + k * s) % w
+    → q′ ≡ (p′ + k * s) % w
+place-behind {w} {p} {p′} s k front last behind =
+    let same = sym (last .1) ∙ behind ∙ sym (place-before w p p′ k s (front .1)) ∙ sym (place-next w p′ k s) in
+    one-place s (last .0) (mod-lt _ (omega (arith, last .0))) same
