@@ -7,6 +7,7 @@ SITE ?= examples/site
 CFLAGS := -std=c11 -Wall -Wextra -Wpedantic -Werror -O2
 CPPFLAGS := -I$(INCLUDE) -Ihost
 HEADER := $(INCLUDE)/fiddlequill.h
+VERSION := $(shell sed -n 's/^.define FIDDLEQUILL_VERSION "\(.*\)"/\1/p' $(HEADER))
 SANITIZE := -fno-sanitize-recover=all -g
 RATTLE := $(wildcard crates/*/src/*.rt crates/*/specs/*.antt crates/*/proofs/*.antt) \
 	$(shell find crates -name Proof.antt) crates.txt
@@ -91,9 +92,9 @@ build/include/fiddlequill.h: $(HEADER)
 	@mkdir -p build/include
 	cp $< $@
 
-build/fiddlequill.pc: Makefile
+build/fiddlequill.pc: Makefile $(HEADER)
 	@mkdir -p build
-	printf 'prefix=%s\nlibdir=$${prefix}/lib\nincludedir=$${prefix}/include\n\nName: fiddlequill\nDescription: proved judge for lobby displays\nVersion: 4.1.0\nLibs: -L$${libdir} -lfiddlequill\nCflags: -I$${includedir}\n' '$(PREFIX)' >$@
+	printf 'prefix=%s\nlibdir=$${prefix}/lib\nincludedir=$${prefix}/include\n\nName: fiddlequill\nDescription: proved judge for lobby displays\nVersion: $(VERSION)\nLibs: -L$${libdir} -lfiddlequill\nCflags: -I$${includedir}\n' '$(PREFIX)' >$@
 
 install: lib
 	@rm -f build/fiddlequill.pc

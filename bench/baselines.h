@@ -10,10 +10,13 @@
 
 #include "fiddlequill.h"
 
-/* Where owner and spare bytes begin in a slot record, and the margin, the last field, in an answer record. */
-enum { OWNER_AT = 8, SPARE_AT = 10, MARGIN_AT = 16 };
+/* Where owner and loss begin in a slot record, and the margin, the last field, in an answer record. */
+enum { OWNER_AT = 8, LOSS_AT = 10, MARGIN_AT = 16 };
 
-/* A task and the slots it owns, read and accepted. Few tasks fill the room for slots, so no baseline copies it. */
+/*
+ * A task and the slots it owns, read and accepted; a slot that loses ticks starts behind them. Few tasks fill the room
+ * for slots, so no baseline copies it.
+ */
 struct plan {
     uint32_t id, w, e, D, h, m, k, slots;
     uint32_t start[FIDDLEQUILL_SLOTS_MAX], end[FIDDLEQUILL_SLOTS_MAX];
@@ -87,14 +90,13 @@ uint32_t bytes_judge(const uint8_t *task, size_t task_len, const uint8_t *slots,
 uint64_t remainder_count(const uint8_t *task, size_t task_len, const uint8_t *slots, size_t slots_len, uint64_t offset);
 
 #ifdef BENCH_BEFORE
-/* Calls of an older archive, in a copy with these names; it may read shorter slot records. */
+/* Calls of an older archive, in a copy with these names; it may read shorter slot records, or know no loss. */
 uint32_t before_judge(const uint8_t *task, size_t task_len, const uint8_t *slots, size_t slots_len, uint8_t *reply,
                       size_t reply_len);
 uint32_t before_site(const uint8_t *tasks, size_t tasks_len, const uint8_t *slots, size_t slots_len, uint8_t *reply,
                      size_t reply_len);
 uint64_t before_count(const uint8_t *task, size_t task_len, const uint8_t *slots, size_t slots_len, uint64_t offset);
-uint64_t before_grant(uint8_t *marks, size_t marks_len, uint64_t v, uint64_t e, uint64_t d, uint64_t h, uint64_t m,
-                      uint64_t k);
+void before_grant(void); /* to be called as what it turns out to be */
 #endif
 
 /* Clears n bytes and reads them. */

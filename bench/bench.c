@@ -1,11 +1,11 @@
 /*
  * Side by side, in one run and taking turns: the published Finite-Point method
  * (FP), plain doubling in C, in 16 bits and with a byte stage, the archive, and a
- * floor; then a task on a board beside its own records alone, a site in one call
- * beside a call for each sign, counting beside the obvious loop, and the verdict
- * alone (quick) beside judging. Where an older archive was given, it takes its turns
- * on the same tasks. Every case compares the answers; the exit status depends on
- * that alone, never on a time.
+ * floor; then a task on a board beside its own records alone, slots that start late
+ * beside slots that don't, a site in one call beside a call for each sign, counting
+ * beside the obvious loop, and the verdict alone (quick) beside judging. Where an
+ * older archive was given, it takes its turns on the same tasks. Every case compares
+ * the answers; the exit status depends on that alone, never on a time.
  *
  *   bench FOLDER           prints the report, writes FOLDER/RESULTS.md and results.csv
  *   bench --once W SLOTS K calls each kind once, for counting instructions
@@ -116,7 +116,9 @@ static double ratio_by_turns(job run, void *over, void *under)
 /* Also the call for a whole site. */
 typedef uint32_t (*judge)(const uint8_t *, size_t, const uint8_t *, size_t, uint8_t *, size_t);
 typedef uint64_t (*count)(const uint8_t *, size_t, const uint8_t *, size_t, uint64_t);
-typedef uint64_t (*grant)(uint8_t *, size_t, uint64_t, uint64_t, uint64_t, uint64_t, uint64_t, uint64_t);
+typedef uint64_t (*grant)(uint8_t *, size_t, uint64_t, uint64_t, uint64_t, uint64_t, uint64_t, uint64_t, uint64_t);
+/* The same without a loss. */
+typedef uint64_t (*lossless_grant)(uint8_t *, size_t, uint64_t, uint64_t, uint64_t, uint64_t, uint64_t, uint64_t);
 
 struct judging {
     const struct workload *load;
@@ -215,10 +217,11 @@ static void floor_job(void *context)
 
 static struct {
     size_t slot_bytes; /* of a slot record as it reads them; 0 where no older archive was given */
+    bool knows_loss;   /* of a slot, and is handed one for a grant */
     judge judge, site;
     count count;
-    grant grant;
-} older = {0, BEFORE_CALL(judge), BEFORE_CALL(site), BEFORE_CALL(count), BEFORE_CALL(grant)};
+    void (*grant)(void);
+} older = {0, false, BEFORE_CALL(judge), BEFORE_CALL(site), BEFORE_CALL(count), BEFORE_CALL(grant)};
 
 /* The task of a cell for the older archive. It owns all its slots, so the owners may be cut off. */
 static void make_older(struct workload *load, struct cell cell)
@@ -227,8 +230,17 @@ static void make_older(struct workload *load, struct cell cell)
     load->slots_len = cut_slots(load->slots, load->slots_len, older.slot_bytes);
 }
 
+/* One that knows none has spare bytes there, and refuses them. */
+static bool knows_loss(void)
+{
+    static struct workload load;
+    make_older(&load, (struct cell){55, 1, 10});
+    put_number(load.slots + LOSS_AT, 1, 2);
+    return older.slot_bytes == FIDDLEQUILL_SLOT_BYTES && judged_by(older.judge, &load).number == FIDDLEQUILL_OK;
+}
+
 /* An older record is the beginning of today's. One record is no whole number of those of another size: 1 is given. */
-static void find_slot_bytes(void)
+static void find_older(void)
 {
     static const size_t sizes[] = {FIDDLEQUILL_SLOT_BYTES, OWNER_AT}; /* whole records, or start and end alone */
     static struct workload load;
@@ -237,8 +249,10 @@ static void find_slot_bytes(void)
     for (size_t i = 0; i < LENGTH(sizes); i++) {
         older.slot_bytes = sizes[i];
         make_older(&load, (struct cell){55, 1, 10});
-        if (judged_by(older.judge, &load).number == FIDDLEQUILL_OK)
+        if (judged_by(older.judge, &load).number == FIDDLEQUILL_OK) {
+            older.knows_loss = knows_loss();
             return;
+        }
     }
     fprintf(stderr, "bench: the older archive answers no slot record of a size that is known\n");
     exit(2);
@@ -363,29 +377,66 @@ static void fill_board(struct board_row *row)
                  (all_own || same_bytes(&there, &here));
 }
 
+/* ---- slots that start late ---- */
+
+static void fill_late(struct late_row *row)
+{
+    static struct workload plain, late;
+    make_workload(&plain, row->cell);
+    make_late(&late, &plain);
+    struct judging there = judged_by(fiddlequill_judge, &late), here = judged_by(fiddlequill_judge, &plain);
+    struct judging doubling = judged_by(doubling_judge, &late);
+    struct contender c[] = {{.run = judge_job, .context = &there}, {.run = judge_job, .context = &here}};
+    take_turns(c, LENGTH(c));
+    row->ratio = ratio_of_rounds(&c[0], &c[1]);
+    row->late = median(c[0].times);
+    row->plain = median(c[1].times);
+    row->spread = largest_spread(c, LENGTH(c));
+    row->agree = there.number == FIDDLEQUILL_OK && same_bytes(&there, &here) && same_answer(&doubling, &there) &&
+                 margin_agrees(&there);
+}
+
 /* ---- grants ---- */
 
 struct granting {
     grant grant;
-    uint64_t v, e, h, k;
+    lossless_grant lossless; /* in its place, where an archive knows no loss */
+    uint64_t v, loss, e, h, k;
+    uint32_t apart; /* every slot is free, or every so-many-th */
     uint64_t result;
-    uint8_t marks[GRANT_SLOTS];
+    uint8_t fresh[GRANT_SLOTS], marks[GRANT_SLOTS];
 };
+
+static void mark_free(struct granting *g)
+{
+    for (uint32_t i = 0; i < GRANT_SLOTS; i++)
+        g->fresh[i] = i % g->apart == 0 ? 1 : 0;
+}
+
+static uint32_t free_slots(const struct granting *g)
+{
+    return (GRANT_SLOTS + g->apart - 1) / g->apart;
+}
 
 static void grant_job(void *context)
 {
     struct granting *g = context;
-    memset(g->marks, 1, sizeof g->marks);
-    g->result = g->grant(g->marks, sizeof g->marks, g->v, g->e, g->h, g->h, g->k, g->k);
+    memcpy(g->marks, g->fresh, sizeof g->marks);
+    if (g->lossless != NULL)
+        g->result = g->lossless(g->marks, sizeof g->marks, g->v, g->e, g->h, g->h, g->k, g->k);
+    else
+        g->result = g->grant(g->marks, sizeof g->marks, g->v, g->loss, g->e, g->h, g->h, g->k, g->k);
 }
 
-/* A judging of the grant's wheel with the first j slots; m is k, so firm means that nothing drops. */
+/* A judging of the grant's wheel with the first j free slots; m is k, so firm means that nothing drops. */
 static void wheel_of_grant(struct workload *load, const struct granting *g, uint32_t j)
 {
     load->cell = (struct cell){(uint32_t)(GRANT_SLOTS * g->v), j, (uint32_t)g->k};
     load->slots_len = 0;
-    for (uint32_t i = 0; i < j; i++)
-        put_slot(load, (uint32_t)(i * g->v), (uint32_t)((i + 1) * g->v), PAINTER);
+    for (uint32_t i = 0; i < j; i++) {
+        const uint32_t start = (uint32_t)(i * g->apart * g->v);
+        put_slot(load, start, start + (uint32_t)g->v, PAINTER, (uint32_t)g->loss);
+    }
     put_task(load, (uint32_t)g->e, (uint32_t)g->h, (uint32_t)g->k);
 }
 
@@ -401,32 +452,37 @@ static bool firm_with(const struct granting *g, uint32_t j)
 static bool grant_agrees(const struct granting *g, uint32_t number, uint32_t granted)
 {
     if (number != FIDDLEQUILL_OK)
-        return number == FIDDLEQUILL_NEVER_FIRM && !firm_with(g, GRANT_SLOTS);
+        return number == FIDDLEQUILL_NEVER_FIRM && !firm_with(g, free_slots(g));
     return firm_with(g, granted) && (granted == 0 || !firm_with(g, granted - 1));
 }
 
 static void fill_grant_before(struct grant_row *row, struct granting *ours)
 {
     struct granting before = *ours;
-    if (older.slot_bytes == 0)
+    if (older.slot_bytes == 0 || (ours->loss > 0 && !older.knows_loss))
         return;
-    before.grant = older.grant;
+    if (older.knows_loss)
+        before.grant = (grant)older.grant;
+    else
+        before.lossless = (lossless_grant)older.grant;
     row->before = ratio_by_turns(grant_job, ours, &before);
     row->agree &= before.result == ours->result && memcmp(before.marks, ours->marks, sizeof before.marks) == 0;
 }
 
 /* The need as sixty-fourths of the window: more than a part of the wheel's slots, all of them, or too many. */
-static void fill_grant(struct grant_row *row, uint32_t sixtyfourths)
+static void fill_grant(struct grant_row *row, uint32_t sixtyfourths, uint32_t apart)
 {
     static struct workload load;
     uint32_t h = period_for(GRANT_SLOTS * row->v, GRANT_SLOTS);
     uint64_t e = (uint64_t)h * sixtyfourths / GRANT_SLOTS;
-    struct granting g = {.grant = fiddlequill_grant, .v = row->v, .e = e, .h = h, .k = row->k};
+    struct granting g = {
+        .grant = fiddlequill_grant, .v = row->v, .loss = row->loss, .e = e, .h = h, .k = row->k, .apart = apart};
+    mark_free(&g);
     grant_job(&g);
     row->number = fiddlequill_number(g.result);
     row->granted = fiddlequill_value(g.result);
     row->agree = grant_agrees(&g, row->number, row->granted);
-    wheel_of_grant(&load, &g, row->number == FIDDLEQUILL_OK ? row->granted : GRANT_SLOTS);
+    wheel_of_grant(&load, &g, row->number == FIDDLEQUILL_OK ? row->granted : free_slots(&g));
     struct judging judging = judged_by(fiddlequill_judge, &load);
     struct contender c[] = {{.run = grant_job, .context = &g}, {.run = judge_job, .context = &judging}};
     take_turns(c, LENGTH(c));
@@ -676,12 +732,16 @@ static const uint32_t wheels[] = {55, 700, 1300, 4096, 16384};
 static const uint32_t slot_counts[] = {1, 4, 16, 64};
 static const uint32_t strip_counts[] = {10, 125, 1024};
 static const uint32_t grant_lengths[] = {1, 20, 64, 256};
+static const uint32_t late_lengths[] = {20, 64, 256}, late_strips = 125; /* of grants with a loss */
 static const struct {
     struct cell cell;
     uint32_t beside; /* slots on the table beside the board, all of them owned */
 } board_cells[] = {{{4096, 4, 10}, 4},  {{4096, 4, 125}, 4},  {{4096, 4, 1024}, 4},
                    {{16384, 4, 10}, 4}, {{16384, 4, 125}, 4}, {{16384, 4, 1024}, 4},
                    {{4096, FIDDLEQUILL_SLOTS_MAX, 125}, 64}, {{16384, FIDDLEQUILL_SLOTS_MAX, 125}, 64}};
+static const struct cell late_cells[] = {{55, 4, 10},     {700, 64, 10},  {1300, 4, 125},
+                                         {4096, 64, 125}, {16384, 4, 10}, {16384, 64, 1024},
+                                         {4096, FIDDLEQUILL_SLOTS_MAX, 125}};
 static const struct cell site_cells[] = {{55, 4, 10},    {55, 4, 125},  {1300, 4, 10},
                                          {1300, 4, 125}, {4096, 4, 10}, {4096, 4, 125}};
 static const struct cell count_cells[] = {{55, 4, 10},    {55, 4, 125},    {55, 4, 1024},
@@ -692,14 +752,21 @@ static const struct cell end_cell = {1300, 4, 125};
 
 static const struct {
     const char *kind;
-    uint32_t sixtyfourths;
-} grant_kinds[] = {{"part of the slots", 20}, {"all slots", GRANT_SLOTS}, {"refusal 13", GRANT_SLOTS + 1}};
+    uint32_t sixtyfourths, apart;
+} grant_kinds[] = {{"part of the slots", 20, 1},
+                   {"all slots", GRANT_SLOTS, 1},
+                   {"refusal 13", GRANT_SLOTS + 1, 1},
+                   {"part of every other slot", 20, 2},
+                   {"refusal 13 of every other slot", GRANT_SLOTS, 2}};
 
 /* results.h has room for these. */
 _Static_assert(LENGTH(wheels) * LENGTH(slot_counts) * LENGTH(strip_counts) <= ROWS_MAX, "rows");
 _Static_assert(LENGTH(slot_counts) * (1 + LENGTH(strip_counts)) + 2 * LENGTH(strip_counts) <= GROWTHS_MAX, "growths");
 _Static_assert(LENGTH(board_cells) <= BOARDS_MAX, "boards");
-_Static_assert(LENGTH(grant_lengths) * LENGTH(strip_counts) * LENGTH(grant_kinds) <= GRANTS_MAX, "grants");
+_Static_assert(LENGTH(late_cells) <= LATES_MAX, "lates");
+_Static_assert(LENGTH(grant_kinds) * (LENGTH(grant_lengths) * LENGTH(strip_counts) + LENGTH(late_lengths)) <=
+                   GRANTS_MAX,
+               "grants");
 _Static_assert(LENGTH(site_cells) <= SITES_MAX, "sites");
 _Static_assert(LENGTH(count_cells) <= COUNTS_MAX, "counts");
 
@@ -760,17 +827,31 @@ static void run_boards(struct results *results)
     }
 }
 
+static void run_lates(struct results *results)
+{
+    results->lates = LENGTH(late_cells);
+    for (size_t i = 0; i < results->lates; i++) {
+        results->late[i].cell = late_cells[i];
+        fill_late(&results->late[i]);
+    }
+}
+
+static void add_grants(struct results *results, uint32_t v, uint32_t loss, uint32_t k)
+{
+    for (size_t i = 0; i < LENGTH(grant_kinds); i++) {
+        struct grant_row *row = &results->grant[results->grants++];
+        *row = (struct grant_row){.kind = grant_kinds[i].kind, .v = v, .loss = loss, .k = k};
+        fill_grant(row, grant_kinds[i].sixtyfourths, grant_kinds[i].apart);
+    }
+}
+
 static void run_grants(struct results *results)
 {
-    results->grants = LENGTH(grant_lengths) * LENGTH(strip_counts) * LENGTH(grant_kinds);
-    for (size_t i = 0; i < results->grants; i++) {
-        size_t kind = i % LENGTH(grant_kinds), rest = i / LENGTH(grant_kinds);
-        struct grant_row *row = &results->grant[i];
-        row->kind = grant_kinds[kind].kind;
-        row->v = grant_lengths[rest / LENGTH(strip_counts)];
-        row->k = strip_counts[rest % LENGTH(strip_counts)];
-        fill_grant(row, grant_kinds[kind].sixtyfourths);
-    }
+    for (size_t i = 0; i < LENGTH(grant_lengths); i++)
+        for (size_t j = 0; j < LENGTH(strip_counts); j++)
+            add_grants(results, grant_lengths[i], 0, strip_counts[j]);
+    for (size_t i = 0; i < LENGTH(late_lengths); i++)
+        add_grants(results, late_lengths[i], late_lengths[i] / 4, late_strips);
 }
 
 static void run_sites(struct results *results)
@@ -822,12 +903,13 @@ static int write_results(const char *folder, const char *name, void (*print)(FIL
 static int run(const char *folder)
 {
     static struct results results;
-    find_slot_bytes();
+    find_older();
     results.before_slot_bytes = older.slot_bytes;
     lay_grid(&results);
     run_grid(&results);
     run_growth(&results);
     run_boards(&results);
+    run_lates(&results);
     run_grants(&results);
     run_sites(&results);
     run_counts(&results);
@@ -853,7 +935,8 @@ static int once(struct cell cell)
     struct judging doubling = judged_by(doubling_judge, &load), ours = judged_by(fiddlequill_judge, &load);
     uint64_t count = counted_by(fiddlequill_count, &load, get_number(ours.reply + 12, 4));
     uint32_t v = cell.w < GRANT_SLOTS ? 1 : cell.w / GRANT_SLOTS, h = period_for(GRANT_SLOTS * v, GRANT_SLOTS);
-    struct granting grant = {.grant = fiddlequill_grant, .v = v, .e = h / 3, .h = h, .k = cell.k};
+    struct granting grant = {.grant = fiddlequill_grant, .v = v, .e = h / 3, .h = h, .k = cell.k, .apart = 1};
+    mark_free(&grant);
     grant_job(&grant);
     make_site(&site, cell);
     struct siting whole = {.site = &site, .judge = fiddlequill_site};

@@ -4,25 +4,33 @@
 
 #include <string.h>
 
-/* All of the board's records are tested; the next one takes the place of one that isn't the task's. */
+/*
+ * All of the board's records are tested; the next one takes the place of one that isn't the task's. Of the task's one
+ * that touches the one before it loses nothing, and neither does one at tick 0 where the last ends at w.
+ */
 static uint32_t read_slots(struct plan *plan, const uint8_t *board, uint32_t count)
 {
-    uint32_t previous_end = 0, owned = 0;
+    uint32_t previous_end = 0, owned = 0, own_end = UINT32_MAX, own_start = 0;
     for (uint32_t i = 0; i < count; i++) {
         const uint8_t *slot = board + (size_t)i * FIDDLEQUILL_SLOT_BYTES;
-        uint32_t start = get_number(slot, 4), end = get_number(slot + 4, 4);
+        uint32_t start = get_number(slot, 4), end = get_number(slot + 4, 4), loss = get_number(slot + LOSS_AT, 2);
         if (start >= end)
             return FIDDLEQUILL_EMPTY_SLOT;
         if (end > plan->w)
             return FIDDLEQUILL_SLOT_PAST_WHEEL;
         if (start < previous_end)
             return FIDDLEQUILL_EARLY_SLOT;
-        if (get_number(slot + SPARE_AT, 2) != 0)
-            return FIDDLEQUILL_SPARE_USED;
-        plan->start[owned] = start;
-        plan->end[owned] = previous_end = end;
-        owned += get_number(slot + OWNER_AT, 2) == plan->id;
+        if (loss > end - start)
+            return FIDDLEQUILL_LONG_LOSS;
+        previous_end = end;
+        if (get_number(slot + OWNER_AT, 2) != plan->id)
+            continue;
+        own_start = owned == 0 ? start : own_start;
+        plan->start[owned] = start == own_end ? start : start + loss;
+        plan->end[owned++] = own_end = end;
     }
+    if (own_start == 0 && own_end == plan->w)
+        plan->start[0] = 0;
     plan->slots = owned;
     return FIDDLEQUILL_OK;
 }

@@ -34,6 +34,8 @@ size_t differences(const struct results *results)
         found += !results->row[i].agree;
     for (size_t i = 0; i < results->boards; i++)
         found += !results->board[i].agree;
+    for (size_t i = 0; i < results->lates; i++)
+        found += !results->late[i].agree;
     for (size_t i = 0; i < results->grants; i++)
         found += !results->grant[i].agree;
     for (size_t i = 0; i < results->sites; i++)
@@ -110,19 +112,15 @@ static double most_doubling_ratio(const struct results *results, uint32_t from, 
     return most;
 }
 
-static double most_over_before(const struct results *results)
+/* The most of n ratios, one in each row of `bytes` bytes, the first at `ratio`; 0 where none was measured. */
+static double most_of_rows(const double *ratio, size_t n, size_t bytes)
 {
+    const char *at = (const void *)ratio;
     double most = 0;
-    for (size_t i = 0; i < results->rows; i++)
-        most = results->row[i].before > most ? results->row[i].before : most;
-    return most;
-}
-
-static double most_count_over_before(const struct results *results)
-{
-    double most = 0;
-    for (size_t i = 0; i < results->counts; i++)
-        most = results->count[i].before > most ? results->count[i].before : most;
+    for (size_t i = 0; i < n; i++, at += bytes) {
+        const double here = *(const double *)(const void *)at;
+        most = here > most ? here : most;
+    }
     return most;
 }
 
@@ -140,10 +138,7 @@ static double other_record(const struct board_row *row)
 
 static double most_judgements(const struct results *results)
 {
-    double most = 0;
-    for (size_t i = 0; i < results->grants; i++)
-        most = results->grant[i].judgements > most ? results->grant[i].judgements : most;
-    return most;
+    return most_of_rows(&results->grant->judgements, results->grants, sizeof *results->grant);
 }
 
 static double site_ratio(const struct site_row *row)
@@ -231,8 +226,12 @@ static void print_before_goals(FILE *out, const struct results *results)
 {
     if (results->before_slot_bytes == 0)
         return;
-    print_goal(out, "judging: ours ÷ before, the most of all cells", false, 1.1, most_over_before(results));
-    print_goal(out, "counting: ours ÷ before, the most of all cells", false, 1.1, most_count_over_before(results));
+    print_goal(out, "judging: ours ÷ before, the most of all cells", false, 1.05,
+               most_of_rows(&results->row->before, results->rows, sizeof *results->row));
+    print_goal(out, "counting: ours ÷ before, the most of all cells", false, 1.1,
+               most_of_rows(&results->count->before, results->counts, sizeof *results->count));
+    print_goal(out, "grants: ours ÷ before, the most of all", false, 1.05,
+               most_of_rows(&results->grant->before, results->grants, sizeof *results->grant));
 }
 
 static void print_board_goal(FILE *out, const struct results *results)
@@ -412,17 +411,33 @@ static void print_boards(FILE *out, const struct results *results)
     }
 }
 
+static void print_lates(FILE *out, const struct results *results)
+{
+    fprintf(out, "\n## Slots that start late\n\nThe tasks of Judging, where each slot starts in the middle of the gap "
+                 "before it and loses as much, against the\nsame ticks in slots without a loss (plain). Both answers "
+                 "must be the same bytes; doubling's is compared, too.\n\n");
+    fprintf(out, "| w | slots | k | late ÷ plain | late (µs) | plain (µs) | spread | answers |\n"
+                 "|---:|---:|---:|---:|---:|---:|---:|---|\n");
+    for (size_t i = 0; i < results->lates; i++) {
+        const struct late_row *row = &results->late[i];
+        print_cell_columns(out, &row->cell);
+        fprintf(out, "| %.2f | %.2f | %.2f | %.2f | %s |\n", row->ratio, row->late / 1e3, row->plain / 1e3, row->spread,
+                row->agree ? "all equal" : "DIFFERENT");
+    }
+}
+
 static void print_grants(FILE *out, const struct results *results)
 {
-    fprintf(out, "\n## Grants\n\nAll slots are free, m = k. A judgement is of the same wheel with the granted slots "
-                 "(all, where refused).\n\n");
-    fprintf(out, "| N | v | k | grant | slots granted | in judgements | ours ÷ before | grant (µs) | judgement (µs) "
-                 "| answers |\n"
-                 "|---:|---:|---:|---|---:|---:|---:|---:|---:|---|\n");
+    fprintf(out, "\n## Grants\n\nAll slots are free or every other one is, m = k. A judgement is of the same wheel with the granted "
+                 "slots (all\nfree ones, where refused). Of slots with a loss one behind the other only the first loses "
+                 "it, and none where\nall are granted; – stands where an older archive knows no loss.\n\n");
+    fprintf(out, "| N | v | loss | k | grant | slots granted | in judgements | ours ÷ before | grant (µs) "
+                 "| judgement (µs) | answers |\n"
+                 "|---:|---:|---:|---:|---|---:|---:|---:|---:|---:|---|\n");
     for (size_t i = 0; i < results->grants; i++) {
         const struct grant_row *row = &results->grant[i];
-        fprintf(out, "| %d | %" PRIu32 " | %" PRIu32 " | %s | %" PRIu32 " | %.2f ", GRANT_SLOTS, row->v, row->k,
-                row->kind, row->granted, row->judgements);
+        fprintf(out, "| %d | %" PRIu32 " | %" PRIu32 " | %" PRIu32 " | %s | %" PRIu32 " | %.2f ", GRANT_SLOTS, row->v,
+                row->loss, row->k, row->kind, row->granted, row->judgements);
         print_column(out, row->before);
         fprintf(out, "| %.2f | %.2f | %s |\n", row->grant / 1e3, row->judging / 1e3,
                 row->agree ? "equal" : "DIFFERENT");
@@ -559,8 +574,8 @@ static void print_conditions(FILE *out, const struct results *results)
         fprintf(out, "- before: %s; it reads slot records of %zu bytes\n",
                 before != NULL ? before : "as it was built", results->before_slot_bytes);
     fprintf(out, "- runs: medians of %d rounds of at least %.0f µs of processor time each, taking turns; ours ÷ "
-                 "before, quick ÷ judging\n  and growth are medians of the rounds' ratios; the rounds begin at four "
-                 "places of the stack in turn\n", ROUNDS, batch_ns / 1e3);
+                 "before, late ÷ plain, quick ÷\n  judging and growth are medians of the rounds' ratios; the rounds "
+                 "begin at four places of the stack in turn\n", ROUNDS, batch_ns / 1e3);
 }
 
 /* Ratios stand before times in every table: they are what carries over to another machine. */
@@ -575,14 +590,15 @@ void print_report(FILE *out, const struct results *results)
     print_grid(out, results);
     print_growth(out, results);
     print_boards(out, results);
+    print_lates(out, results);
     print_grants(out, results);
     print_sites(out, results);
     print_counts(out, results);
     print_quicks(out, results);
     print_conditions(out, results);
     fprintf(out, "\nbench: %zu cases, %zu differences\n",
-            results->rows + results->boards + results->grants + results->sites + results->counts + results->quicks +
-                ENDS,
+            results->rows + results->boards + results->lates + results->grants + results->sites + results->counts +
+                results->quicks + ENDS,
             differences(results));
 }
 
@@ -594,7 +610,7 @@ enum column {
     SITE_OVER_SINGLES, LOOP_NS, LOOP_ONE_NS, LOOP_BY_K_NS, BEFORE_NS, BEFORE_ONE_NS, BEFORE_BY_K_NS, OURS_ONE_NS,
     OURS_BY_K_NS, JUDGING_NS, LOOP_OVER_BEFORE, LOOP_OVER_OURS, BY_K_BEFORE_OVER_OURS, BY_K_LOOP_OVER_OURS,
     OURS_OVER_JUDGING, OURS_OVER_BEFORE, ALONE_NS, BOARD_OVER_ALONE, OTHER_RECORD_NS, WORST, DROPS_ALLOWED,
-    QUICK_NS, QUICK_OVER_JUDGING, COLUMNS
+    QUICK_NS, QUICK_OVER_JUDGING, LOSS, PLAIN_NS, LATE_OVER_PLAIN, COLUMNS
 };
 
 static const struct {
@@ -644,6 +660,9 @@ static const struct {
     [DROPS_ALLOWED] = {"drops_allowed", 0},
     [QUICK_NS] = {"quick_ns", 1},
     [QUICK_OVER_JUDGING] = {"quick_over_judging", 4},
+    [LOSS] = {"loss", 0},
+    [PLAIN_NS] = {"plain_ns", 1},
+    [LATE_OVER_PLAIN] = {"late_over_plain", 4},
 };
 
 struct line {
@@ -698,6 +717,17 @@ static void print_csv_boards(FILE *out, const struct results *results)
     }
 }
 
+static void print_csv_lates(FILE *out, const struct results *results)
+{
+    for (size_t i = 0; i < results->lates; i++) {
+        const struct late_row *l = &results->late[i];
+        fprintf(out, "late");
+        print_line(out, &l->cell, (struct line){
+                   .at = {[OURS_NS] = l->late, [SPREAD] = l->spread, [PLAIN_NS] = l->plain,
+                          [LATE_OVER_PLAIN] = l->ratio}});
+    }
+}
+
 static void print_csv_grants(FILE *out, const struct results *results)
 {
     for (size_t i = 0; i < results->grants; i++) {
@@ -705,7 +735,8 @@ static void print_csv_grants(FILE *out, const struct results *results)
         const struct cell cell = {GRANT_SLOTS * g->v, GRANT_SLOTS, g->k};
         fprintf(out, "grant of %s", g->kind);
         print_line(out, &cell, (struct line){
-                   .at = {[OURS_NS] = g->grant, [JUDGEMENTS] = g->judgements, [OURS_OVER_BEFORE] = g->before}});
+                   .at = {[OURS_NS] = g->grant, [JUDGEMENTS] = g->judgements, [OURS_OVER_BEFORE] = g->before,
+                          [LOSS] = g->loss}});
     }
 }
 
@@ -769,6 +800,7 @@ void print_csv(FILE *out, const struct results *results)
     fputc('\n', out);
     print_csv_rows(out, results);
     print_csv_boards(out, results);
+    print_csv_lates(out, results);
     print_csv_grants(out, results);
     print_csv_sites(out, results);
     print_csv_counts(out, results);

@@ -13,7 +13,8 @@ enum {
     ROWS_MAX = 60,
     GROWTHS_MAX = 32,
     BOARDS_MAX = 8,
-    GRANTS_MAX = 36,
+    LATES_MAX = 8,
+    GRANTS_MAX = 75,
     SITES_MAX = 6,
     COUNTS_MAX = 9
 };
@@ -56,10 +57,18 @@ struct board_row {
     bool agree;
 };
 
+/* A table of slots that start late against one that has the same ticks without a loss. */
+struct late_row {
+    struct cell cell;
+    double ratio, late, plain; /* the median of the rounds' ratios, then ns */
+    double spread;
+    bool agree;
+};
+
 /* A grant against one judging of its wheel. */
 struct grant_row {
     const char *kind;
-    uint32_t v, k;
+    uint32_t v, loss, k;
     uint32_t number, granted;
     double judgements, grant, judging; /* a ratio, then ns */
     double before;
@@ -112,11 +121,12 @@ struct end_row {
 };
 
 struct results {
-    size_t rows, growths, boards, grants, sites, counts, quicks;
+    size_t rows, growths, boards, lates, grants, sites, counts, quicks;
     size_t before_slot_bytes; /* of an older archive's slot record; 0 where none was given */
     struct row row[ROWS_MAX];
     struct growth growth[GROWTHS_MAX];
     struct board_row board[BOARDS_MAX];
+    struct late_row late[LATES_MAX];
     struct grant_row grant[GRANTS_MAX];
     struct site_row site[SITES_MAX];
     struct count_row count[COUNTS_MAX];

@@ -43,13 +43,13 @@ void put_task(struct workload *load, uint32_t e, uint32_t h, uint32_t m)
     put_number(load->task + 30, (uint32_t)(load->slots_len / FIDDLEQUILL_SLOT_BYTES), 2);
 }
 
-void put_slot(struct workload *load, uint32_t start, uint32_t end, uint32_t owner)
+void put_slot(struct workload *load, uint32_t start, uint32_t end, uint32_t owner, uint32_t loss)
 {
     uint8_t *slot = load->slots + load->slots_len;
     put_number(slot, start, 4);
     put_number(slot + 4, end, 4);
     put_number(slot + OWNER_AT, owner, 2);
-    put_number(slot + SPARE_AT, 0, 2);
+    put_number(slot + LOSS_AT, loss, 2);
     load->slots_len += FIDDLEQUILL_SLOT_BYTES;
 }
 
@@ -61,7 +61,7 @@ static void put_slots(struct workload *load, uint32_t from, uint32_t to, uint32_
         uint32_t at = from + (to - from) * i / n;
         uint32_t pitch = from + (to - from) * (i + 1) / n - at;
         uint32_t start = at + (uint32_t)(draw(&state) % (pitch / 4 + 1));
-        put_slot(load, start, start + (pitch > 1 ? pitch / 2 : 1), owner);
+        put_slot(load, start, start + (pitch > 1 ? pitch / 2 : 1), owner, 0);
     }
 }
 
@@ -134,12 +134,26 @@ void make_board(struct workload *board, const struct workload *own)
         put_slots(board, from, to, others * passed / outside - put, PAINTER + 1 + i);
         put = others * passed / outside;
         if (i < plan->slots) {
-            put_slot(board, plan->start[i], plan->end[i], PAINTER);
+            put_slot(board, plan->start[i], plan->end[i], PAINTER, 0);
             from = plan->end[i];
         }
     }
     put_task(board, plan->e, plan->h, plan->m);
     open_plan(board);
+}
+
+/* Half a gap is left between two slots, so that none touches the one before it. */
+void make_late(struct workload *late, const struct workload *own)
+{
+    const struct plan *plan = &own->fp.plan;
+    late->cell = own->cell;
+    late->slots_len = 0;
+    for (uint32_t i = 0; i < plan->slots; i++) {
+        const uint32_t loss = (plan->start[i] - (i > 0 ? plan->end[i - 1] : 0)) / 2;
+        put_slot(late, plan->start[i] - loss, plan->end[i], PAINTER, loss);
+    }
+    put_task(late, plan->e, plan->h, plan->m);
+    open_plan(late);
 }
 
 static void put_sign(struct site *site, const struct workload *load, uint32_t i)

@@ -49,7 +49,7 @@ uint64_t draw(uint64_t *state);
 uint32_t period_for(uint32_t w, uint32_t slots);
 
 /* Appends a slot; then writes a task over all slots so far, with D = h and the cell's w and k. */
-void put_slot(struct workload *load, uint32_t start, uint32_t end, uint32_t owner);
+void put_slot(struct workload *load, uint32_t start, uint32_t end, uint32_t owner, uint32_t loss);
 void put_task(struct workload *load, uint32_t e, uint32_t h, uint32_t m);
 
 /* The task of a cell; exits when the baselines' reader refuses it. */
@@ -60,6 +60,8 @@ void set_table(struct workload *load, enum table table, uint32_t worst);
 void make_end(struct workload *load, struct cell cell, enum end end);
 /* The same task on a board of FIDDLEQUILL_SLOTS_MAX records, where other owners have slots in all the gaps. */
 void make_board(struct workload *board, const struct workload *own);
+/* The same task with the same ticks, where each slot starts in the middle of the gap before it and loses that much. */
+void make_late(struct workload *late, const struct workload *own);
 /* A site of tasks around the cell's. */
 void make_site(struct site *site, struct cell cell);
 /* Cuts each slot record down to its first `bytes` bytes, and gives the length of them all. */

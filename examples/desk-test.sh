@@ -1,12 +1,10 @@
 #!/bin/sh
-# What the desk says of bad sites, of an empty one, of tasks whose board is refused, of margins, and of shared boards.
+# What the desk says of bad sites, of an empty one, of tasks whose board is refused, of margins, of shared boards, and of
+# ticks that go to the switch.
 # Usage: desk-test.sh DESK RECORDS SITE
 set -u
 program=$1 records=$2 site=$3
 . "$(dirname "$0")/tries.sh"
-
-# spare RECORD PLACE BYTE: the spare byte at PLACE, 0 or 1, of a record of slots.bin becomes BYTE, in octal.
-spare() { printf "\\$3" | dd of="$folder/slots.bin" bs=1 seek=$((12 * $1 + 10 + $2)) conv=notrunc 2>/dev/null; }
 
 # slots N: N slots of a tick each, as lines of a table; every second one is task 7's.
 slots() { awk -v n="$1" 'BEGIN { for (i = 0; i < n; i++) printf "%d,%d,%d\n", 2 * i, 2 * i + 1, 7 + i % 2 }'; }
@@ -42,7 +40,7 @@ r14='task 7: refused with 14, the board has more than 512 slot records'
 r15="task 7: refused with 15, a slot whose start isn't below its end"
 r16='task 7: refused with 16, a slot whose end is above the wheel w'
 r17='task 7: refused with 17, a slot whose start is below the end of the slot before it'
-r18="task 7: refused with 18, a slot whose two spare bytes aren't zero"
+r18='task 7: refused with 18, a slot whose loss is above its length'
 r19="refused with 19, the id isn't from 0 to 65,535"
 task='7,55,27,70,70,3,10,1,3'
 
@@ -74,20 +72,16 @@ says "17 against another owner's slot" "$task" '0,55,7\n0,10,5\n9,30,7\n40,50,7'
 says '17 between two others' "$task" '0,55,7\n0,10,7\n20,30,5\n29,50,6' "$r17
   slots.bin, record 3 (slot 2 of the board, owner 6): from 29 to 50, while slot 1, owner 5, lasts to 30"
 
-# Spare bytes are set behind the tables' back, which have no column for them.
-good='0,55,7\n0,10,7\n20,30,5\n40,50,7'
-tables "$task" "$good"; spare 1 0 001
-prints '18 in the first slot' "$r18
-  slots.bin, record 1 (slot 0 of the board, owner 7): from 0 to 10, with spare bytes 1 and 0"
-tables "$task" "$good"; spare 2 1 377
-prints "18 in another owner's slot" "$r18
-  slots.bin, record 2 (slot 1 of the board, owner 5): from 20 to 30, with spare bytes 0 and 255"
-tables "$task" '0,55,7\n0,10,7\n9,30,5\n40,50,7'; spare 2 0 001
-prints '17 and 18 in one slot' "$r17
+says '18 in the first slot' "$task" '0,55,7\n0,10,7,11\n20,30,5\n40,50,7' "$r18
+  slots.bin, record 1 (slot 0 of the board, owner 7): from 0 to 10, while its loss is 11"
+says "18 in another owner's slot" "$task" '0,55,7\n0,10,7\n20,30,5,65535\n40,50,7' "$r18
+  slots.bin, record 2 (slot 1 of the board, owner 5): from 20 to 30, while its loss is 65535"
+says '18 in a slot that touches' "$task" '0,55,7\n0,10,7\n20,30,7\n30,40,7,11' "$r18
+  slots.bin, record 3 (slot 2 of the board, owner 7): from 30 to 40, while its loss is 11"
+says '17 and 18 in one slot' "$task" '0,55,7\n0,10,7\n9,30,5,22\n40,50,7' "$r17
   slots.bin, record 2 (slot 1 of the board, owner 5): from 9 to 30, while slot 0, owner 7, lasts to 10"
-tables "$task" '0,55,7\n0,10,7\n20,30,5\n40,40,7'; spare 2 0 200
-prints '18 in a slot, 15 in a later one' "$r18
-  slots.bin, record 2 (slot 1 of the board, owner 5): from 20 to 30, with spare bytes 128 and 0"
+says '18 in a slot, 15 in a later one' "$task" '0,55,7\n0,10,7\n20,30,5,256\n40,40,7' "$r18
+  slots.bin, record 2 (slot 1 of the board, owner 5): from 20 to 30, while its loss is 256"
 
 says '15 and 16 in one slot' "$task" '0,55,7\n0,10,7\n70,60,7\n40,50,7' "$r15
   slots.bin, record 2 (slot 1 of the board, owner 7): from 70 to 60"
@@ -259,5 +253,80 @@ says 'one free slot' '7,2,1,1,1,1,1,0,1' '1,2,5' \
   some strip lacks 1 tick
   of the board's slots it has 0 of 1, of the ticks 0 of 2
   with 1 free slot of 1 tick: no choice of the free slots makes the task firm"
+
+# Ticks that go to the switch: named where there are some, and the slot loses none where it goes on from the task's own.
+to='slot ticks in each turn'
+says 'a slot that loses a tick, and one that starts later' '7,10,3,5,14,1,2,0,1\n7,10,3,5,14,1,2,1,1' '0,8,7,1\n1,8,7' \
+    "task 7: firm, at worst 1 of 2 strips drop and 1 may, first from tick 1.5
+  counted again from there: 1
+  the first strip there has 2 ticks to spare
+  some strip lacks 1 tick, but no more drop than may
+  1 of its 8 $to goes to the switch: 1 in slot (0,8)
+task 7: firm, at worst 1 of 2 strips drop and 1 may, first from tick 1.5
+  counted again from there: 1
+  the first strip there has 2 ticks to spare
+  some strip lacks 1 tick, but no more drop than may"
+says 'a slot that loses all its ticks' '7,10,3,5,14,1,2,0,1' '0,8,7,8' \
+    "task 7: not firm, at worst 2 of 2 strips drop and 1 may, first from tick 0
+  counted again from there: 2
+  the first strip there lacks 3 ticks
+  some strip lacks 3 ticks
+  8 of its 8 $to go to the switch: 8 in slot (0,8)
+  with 1 free slot of 10 ticks and a loss of 8: the first 1 would make it firm"
+says 'a pair that touches' "$shared,0,2" '0,4,7\n4,8,7,4' "$worst
+  with 2 free slots of 5 ticks and a loss of 4: the first 2 would make it firm"
+says 'a pair that touches round the end' '7,10,3,5,14,1,2,0,2' '0,3,7,3\n5,10,7,2' \
+    "task 7: not firm, at worst 2 of 2 strips drop and 1 may, first from tick 0.5
+  counted again from there: 2
+  the first strip there lacks 0.5 ticks
+  some strip lacks 2 ticks
+  2 of its 8 $to go to the switch: 2 in slot (5,10)
+  with 2 free slots of 5 ticks and a loss of 3: the first 2 would make it firm"
+whole="task 7: $none
+  the first strip there has 2 ticks to spare
+  a strip may need 2 ticks more before one drops"
+says 'a slot that fills the wheel' '7,10,3,5,14,1,2,0,1' '0,10,7,10' "$whole"
+says 'a pair that fills the wheel' '7,10,3,5,14,1,2,0,2' '0,4,7,4\n4,10,7,6' "$whole"
+says 'a slot behind one that loses all' '7,10,2,5,14,1,2,0,2' '2,4,7,2\n4,9,7,5' \
+    "task 7: firm, at worst 1 of 2 strips drop and 1 may, first from tick 0
+  counted again from there: 1
+  the first strip there lacks 1 tick
+  some strip lacks 2 ticks, but no more drop than may
+  2 of its 7 $to go to the switch: 2 in slot (2,4)"
+
+# Another owner's slot, one outside the board, or one that ends before the wheel does is none to go on from.
+later='task 7: firm, at worst 1 of 2 strips drop and 1 may, first from tick 2.5
+  counted again from there: 1
+  the first strip there has 2.5 ticks to spare
+  some strip lacks 2 ticks, but no more drop than may'
+says "a slot behind another owner's" '7,10,2,5,14,1,2,0,2' '0,2,5,2\n2,8,7,1' "$later
+  of the board's slots it has 1 of 2, of the ticks 6 of 10
+  1 of its 6 $to goes to the switch: 1 in slot (2,8)"
+says "a slot behind one that isn't the board's" '7,10,2,5,14,1,2,1,1' '0,2,7\n2,8,7,1' "$later
+  1 of its 6 $to goes to the switch: 1 in slot (2,8)"
+says 'another owner round the end' '7,10,2,5,14,1,2,0,3' '0,4,7,1\n4,8,7,1\n8,10,5,1' "task 7: $none
+  the first strip there has 2 ticks to spare
+  a strip may need no tick more before one drops
+  of the board's slots it has 2 of 3, of the ticks 8 of 10
+  1 of its 8 $to goes to the switch: 1 in slot (0,4)"
+says 'a last slot that ends before the wheel' '7,10,2,5,14,1,2,0,2' '0,3,7,1\n5,9,7,1' "task 7: $none
+  the first strip there has nothing to spare
+  a strip may need no tick more before one drops
+  2 of its 7 $to go to the switch: 1 in slot (0,3), 1 in slot (5,9)"
+says 'losses of some slots' '7,12,2,6,14,1,2,0,5' '0,2,7,1\n3,5,7,2\n5,6,7,1\n7,9,7\n10,11,7,1' \
+    "task 7: not firm, at worst 2 of 2 strips drop and 1 may, first from tick 8.5
+  counted again from there: 2
+  the first strip there lacks 0.5 ticks
+  some strip lacks 1 tick
+  4 of its 8 $to go to the switch: 1 in slot (0,2), 2 in slot (3,5), 1 in slot (10,11)
+  with 6 free slots of 2 ticks and a loss of 2: the first 5 would make it firm"
+says "an offer with another owner's loss" "$shared,0,3" '0,4,7\n4,8,7\n8,9,5,1' "$worst
+  of the board's slots it has 2 of 3, of the ticks 8 of 10
+  with 9 free slots of 1 tick and a loss of 1: no choice of the free slots makes the task firm"
+says 'as many slots as a board may have' '7,1024,1,2,2,1,1,0,512' "$(slots 512 | sed 's/,8$/,7/')" \
+    'task 7: firm, at worst 0 of 1 strips drop and 0 may, first from tick 0
+  counted again from there: 0
+  the first strip there has nothing to spare
+  a strip may need no tick more before one drops'
 
 ends

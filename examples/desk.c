@@ -6,11 +6,12 @@
  *
  * FOLDER holds tasks.bin and slots.bin (`records make FOLDER` makes them). Of a
  * task that is answered it says how much more a strip may need before one drops,
- * or how much some strip lacks, and, where others have slots of its board, too,
- * how much of it is its own. For a task that isn't firm it asks whether equal
- * slots would do that no other owner has; for one that is refused because of its
- * board it says what stands in which record of which file, and whose slot that
- * is. Records are counted from 0, and so are the slots of a board.
+ * or how much some strip lacks; where others have slots of its board, too, how
+ * much of it is its own; and which of its ticks go to the switch. For a task that
+ * isn't firm it asks whether equal slots would do that no other owner has; for
+ * one that is refused because of its board it says what stands in which record of
+ * which file, and whose slot that is. Records are counted from 0, and so are the
+ * slots of a board.
  * The exit status is 0 when every task got an answer, refused ones included.
  */
 #include "bytes.h"
@@ -21,6 +22,7 @@
 #include <stdbool.h>
 #include <stdio.h>
 #include <stdlib.h>
+#include <string.h>
 
 struct site {
     struct file tasks, slots;
@@ -32,7 +34,12 @@ struct task {
 };
 
 struct slot {
-    uint32_t start, end, owner, spare[2];
+    uint32_t start, end, owner, loss;
+};
+
+/* What a task has of its board, and how much of that goes to the switch. */
+struct share {
+    uint32_t slots, ticks, lost;
 };
 
 struct answer {
@@ -63,7 +70,7 @@ static struct slot slot_of(const struct site *site, uint32_t i)
         .start = get_number(bytes, 4),
         .end = get_number(bytes + 4, 4),
         .owner = get_number(bytes + 8, 2),
-        .spare = {bytes[10], bytes[11]},
+        .loss = get_number(bytes + 10, 2),
     };
 }
 
@@ -165,27 +172,112 @@ static void tell_lack(const struct answer *answer)
     printf("%s\n", answer->firm ? ", but no more drop than may" : "");
 }
 
-/* A task that has its board to itself isn't told so. */
-static void tell_share(const struct site *site, const struct task *task)
+/*
+ * The ticks that a slot of a good board gives to the switch. Records stand in the
+ * order of time there, so none but the one before it can end where it starts, and
+ * before the first one, round the end of the wheel, none but the last.
+ */
+static uint32_t lost_in(const struct site *site, const struct task *task, uint32_t place)
 {
-    uint32_t slots = 0, ticks = 0;
-    for (uint32_t i = 0; i < task->count; i++) {
-        struct slot slot = slot_of(site, task->first + i);
-        if (slot.owner == task->id) {
-            slots++;
-            ticks += slot.end - slot.start;
-        }
-    }
-    if (slots < task->count)
-        printf("  of the board's slots it has %" PRIu32 " of %" PRIu32 ", of the ticks %" PRIu32 " of %" PRIu32 "\n",
-               slots, task->count, ticks, task->w);
+    struct slot slot = slot_of(site, task->first + place);
+    struct slot before = slot_of(site, task->first + (place > 0 ? place : task->count) - 1);
+    bool goes_on = before.owner == slot.owner && before.end % task->w == slot.start;
+    return goes_on ? 0 : slot.loss;
 }
 
-/* The largest number of equal slots that w ticks can be cut into. */
-static uint32_t equal_slots(uint32_t w)
+static struct share share_of(const struct site *site, const struct task *task)
+{
+    struct share share = {0, 0, 0};
+    for (uint32_t place = 0; place < task->count; place++) {
+        struct slot slot = slot_of(site, task->first + place);
+        if (slot.owner == task->id) {
+            share.slots++;
+            share.ticks += slot.end - slot.start;
+            share.lost += lost_in(site, task, place);
+        }
+    }
+    return share;
+}
+
+/* A task that has its board to itself isn't told so. */
+static void tell_share(const struct task *task, const struct share *share)
+{
+    if (share->slots < task->count)
+        printf("  of the board's slots it has %" PRIu32 " of %" PRIu32 ", of the ticks %" PRIu32 " of %" PRIu32 "\n",
+               share->slots, task->count, share->ticks, task->w);
+}
+
+static void tell_lost(const struct site *site, const struct task *task, const struct share *share)
+{
+    const char *mark = ":";
+    if (share->lost == 0)
+        return;
+    printf("  %" PRIu32 " of its %" PRIu32 " slot ticks in each turn %s to the switch", share->lost, share->ticks,
+           share->lost == 1 ? "goes" : "go");
+    for (uint32_t place = 0; place < task->count; place++) {
+        struct slot slot = slot_of(site, task->first + place);
+        uint32_t lost = lost_in(site, task, place);
+        if (slot.owner == task->id && lost > 0) {
+            printf("%s %" PRIu32 " in slot (%" PRIu32 ",%" PRIu32 ")", mark, lost, slot.start, slot.end);
+            mark = ",";
+        }
+    }
+    printf("\n");
+}
+
+/* The task's slots without the ticks that they lose, as records of loss 0; gives how many there are. */
+static uint32_t usable_slots(const struct site *site, const struct task *task, uint8_t *records)
+{
+    uint32_t count = 0;
+    for (uint32_t place = 0; place < task->count; place++) {
+        struct slot slot = slot_of(site, task->first + place);
+        uint32_t start = slot.start + lost_in(site, task, place);
+        if (slot.owner == task->id && start < slot.end) {
+            uint8_t *record = records + count++ * FIDDLEQUILL_SLOT_BYTES;
+            put_number(record, start, 4);
+            put_number(record + 4, slot.end, 4);
+            put_number(record + 8, slot.owner, 2);
+            put_number(record + 10, 0, 2);
+        }
+    }
+    return count;
+}
+
+/* On a board of these slots alone the task must get the same answer. */
+static int rejudge(const struct site *site, const uint8_t *record, const uint8_t *reply)
+{
+    uint8_t slots[FIDDLEQUILL_SLOTS_MAX * FIDDLEQUILL_SLOT_BYTES], task[FIDDLEQUILL_TASK_BYTES];
+    uint8_t again[FIDDLEQUILL_ANSWER_BYTES] = {0};
+    struct task read = task_of(record);
+    uint32_t count = usable_slots(site, &read, slots);
+    memcpy(task, record, sizeof task);
+    put_number(task + 28, 0, 2);
+    put_number(task + 30, count, 2);
+    uint32_t number = fiddlequill_judge(task, sizeof task, slots, (size_t)count * FIDDLEQUILL_SLOT_BYTES, again,
+                                        sizeof again);
+    if (number == FIDDLEQUILL_OK && memcmp(again, reply, sizeof again) == 0)
+        return 0;
+    fprintf(stderr, "%s: task %" PRIu32 ": judging without the lost ticks gives refusal %" PRIu32 ", another answer\n",
+            site->tasks.path, read.id, number);
+    return -1;
+}
+
+/* The longest loss of a board's slots, whoever owns them: an offer is to hold for any switch there. */
+static uint32_t longest_loss(const struct site *site, const struct task *task)
+{
+    uint32_t longest = 0;
+    for (uint32_t i = 0; i < task->count; i++) {
+        struct slot slot = slot_of(site, task->first + i);
+        longest = slot.loss > longest ? slot.loss : longest;
+    }
+    return longest;
+}
+
+/* The largest number of equal slots that w ticks can be cut into, each with room for the loss, which is at most w. */
+static uint32_t equal_slots(uint32_t w, uint32_t loss)
 {
     uint32_t n = FIDDLEQUILL_GRANT_SLOTS_MAX;
-    while (w % n != 0)
+    while (w % n != 0 || w / n < loss)
         n--;
     return n;
 }
@@ -201,18 +293,28 @@ static bool is_taken(const struct site *site, const struct task *task, uint32_t 
     return false;
 }
 
-/* Were the task's wheel cut into equal slots, free where no other owner is: how many would it take? */
-static void offer_grant(const struct site *site, const struct task *task)
+/* Marks the wheel's n equal slots, free where no other owner is, and gives how many are. */
+static uint32_t mark_free(const struct site *site, const struct task *task, uint8_t *marks, uint32_t n)
 {
-    uint8_t marks[FIDDLEQUILL_GRANT_SLOTS_MAX];
-    uint32_t n = equal_slots(task->w), v = task->w / n, free_slots = 0;
+    uint32_t v = task->w / n, free_slots = 0;
     for (uint32_t i = 0; i < n; i++) {
         marks[i] = is_taken(site, task, i * v, (i + 1) * v) ? 0 : 1;
         free_slots += marks[i];
     }
-    uint64_t packed = fiddlequill_grant(marks, n, v, task->e, task->D, task->h, task->m, task->k);
+    return free_slots;
+}
+
+/* Were the task's wheel cut into equal slots: how many of the free ones would it take? */
+static void offer_grant(const struct site *site, const struct task *task)
+{
+    uint8_t marks[FIDDLEQUILL_GRANT_SLOTS_MAX];
+    uint32_t loss = longest_loss(site, task), n = equal_slots(task->w, loss), v = task->w / n;
+    uint32_t free_slots = mark_free(site, task, marks, n);
+    uint64_t packed = fiddlequill_grant(marks, n, v, loss, task->e, task->D, task->h, task->m, task->k);
     printf("  with %" PRIu32 " free %s of ", free_slots, free_slots == 1 ? "slot" : "slots");
     print_ticks(2 * v);
+    if (loss > 0)
+        printf(" and a loss of %" PRIu32, loss);
     printf(": ");
     if (fiddlequill_number(packed) == FIDDLEQUILL_OK)
         printf("the first %" PRIu32 " would make it firm\n", fiddlequill_value(packed));
@@ -234,8 +336,8 @@ static void point_at_slot(const struct site *site, const struct task *task, uint
         struct slot before = slot_of(site, i - 1);
         printf(", while slot %" PRIu32 ", owner %" PRIu32 ", lasts to %" PRIu32, place - 1, before.owner, before.end);
     }
-    if (number == FIDDLEQUILL_SPARE_USED)
-        printf(", with spare bytes %" PRIu32 " and %" PRIu32, slot.spare[0], slot.spare[1]);
+    if (number == FIDDLEQUILL_LONG_LOSS)
+        printf(", while its loss is %" PRIu32, slot.loss);
     printf("\n");
 }
 
@@ -290,13 +392,16 @@ static int tell_one(const struct site *site, const uint8_t *record, const uint8_
         return tell_board(site, record, &answer);
     }
     print_verdict(&task, &answer);
-    if (recount(site, record, &answer) != 0 || tell_first(site, record, &answer) != 0)
+    if (recount(site, record, &answer) != 0 || tell_first(site, record, &answer) != 0 ||
+        rejudge(site, record, reply) != 0)
         return -1;
     if (answer.margin < 0)
         tell_lack(&answer);
     else
         tell_growth(answer.margin);
-    tell_share(site, &task);
+    struct share share = share_of(site, &task);
+    tell_share(&task, &share);
+    tell_lost(site, &task, &share);
     if (!answer.firm)
         offer_grant(site, &task);
     return 0;

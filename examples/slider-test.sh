@@ -21,6 +21,9 @@ usage "$site" 1 h
 usage "$site" 1 e 0
 usage "$site" 1 end
 usage "$site" 1 end 0 0
+usage "$site" 1 loss
+usage "$site" 1 loss 0 0
+usage "$site" 1 D 0
 
 complains_of_files 1 e
 cp "$site/tasks.bin" "$folder"
@@ -31,6 +34,8 @@ for place in 2 x -1 '' 65536 4294967296 18446744073709551616; do
     complains "slots.bin: the board has no slot $place" 1 end "$place"
 done
 complains "slots.bin: slot 0 of the board is owner 2's" 3 end 0
+complains 'slots.bin: the board has no slot 2' 1 loss 2
+complains "slots.bin: slot 0 of the board is owner 2's" 3 loss 0
 
 # T of the rules: of two strips one may drop. Any 5 ticks hold 3 of its slot.
 task='7,10,4,5,14,1,2'
@@ -85,5 +90,49 @@ says 'a slot behind the wheel' "$task,0,1" '10,10,7' 'task 7: end is 10
   end 11: refused with 16, a slot whose end is above the wheel w' 7 end 0
 says "an end beside another's bad slot" "$task,0,2" '0,7,7\n8,8,5' "task 7: end is 7
   end 1 to 8: refused with 15, a slot whose start isn't below its end" 7 end 0
+says "an end beside another's long loss" "$task,0,2" '0,7,7\n8,9,5,2' 'task 7: end is 7
+  end 1 to 8: refused with 18, a slot whose loss is above its length' 7 end 0
+
+# An end nearer than the slot's loss is refused. Where it comes to a slot of the same owner, that one loses nothing any more.
+lower='7,10,3,5,14,1,2'
+says 'an end too near for the loss, and the wheel filled' "$lower,0,1" '0,8,7,3' 'task 7: end is 8
+  end 1 to 2: refused with 18, a slot whose loss is above its length
+  end 3 to 9: not firm
+  end 10: firm' 7 end 0
+says "an end that comes to the task's next slot" "$task,0,2" '0,3,7\n5,10,7,2' 'task 7: end is 3
+  end 1 to 4: not firm
+  end 5: firm' 7 end 0
+says "an end that comes to the task's first slot" "$lower,0,2" '0,4,7,3\n4,8,7' 'task 7: end is 8
+  end 5 to 9: not firm
+  end 10: firm' 7 end 1
+
+# A loss goes to the slot's length, and the record behind it stays as it is. Without a switch it takes nothing.
+says 'a loss' "$lower,0,1" '0,8,7' 'task 7: loss is 0
+  loss 0 to 1: firm
+  loss 2 to 8: not firm' 7 loss 0
+says 'a loss that is refused now' "$lower,0,1" '0,8,7,65535' 'task 7: loss is 65535
+  loss 0 to 1: firm
+  loss 2 to 8: not firm' 7 loss 0
+says 'a loss beside other slots' '7,10,2,5,14,1,2,0,3' '0,5,7\n6,8,5,2\n8,9,7,1' 'task 7: loss is 0
+  loss 0: firm
+  loss 1 to 5: not firm' 7 loss 0
+says 'a loss of the shortest slot' '7,10,2,5,14,1,2,0,3' '0,5,7\n6,8,5,2\n8,9,7,1' 'task 7: loss is 1
+  loss 0 to 1: firm' 7 loss 2
+says 'a loss of a slot that touches' "$task,0,2" '0,4,7\n4,9,7' 'task 7: loss is 0
+  loss 0 to 5: firm' 7 loss 1
+says 'a loss of a slot that touches round the end' "$task,0,2" '0,4,7,4\n4,10,7,6' 'task 7: loss is 4
+  loss 0 to 4: firm' 7 loss 0
+says 'a loss of a slot that touches nothing round the end' "$task,0,2" '0,4,7,4\n4,9,7,5' 'task 7: loss is 4
+  loss 0: firm
+  loss 1 to 4: not firm' 7 loss 0
+says 'a loss of a slot that fills the wheel' "$task,0,1" '0,10,7,3' 'task 7: loss is 3
+  loss 0 to 10: firm' 7 loss 0
+empty="refused with 15, a slot whose start isn't below its end"
+says 'a loss of an empty slot' "$task,0,1" '8,8,7' "task 7: loss is 0
+  loss 0: $empty" 7 loss 0
+says 'a loss of a slot that ends before its start' "$task,0,1" '8,2,7,1' "task 7: loss is 1
+  loss 0: $empty" 7 loss 0
+says 'a loss of an endless slot' "$task,0,1" '0,4294967295,7,5' 'task 7: loss is 5
+  loss 0 to 16384: refused with 16, a slot whose end is above the wheel w' 7 loss 0
 
 ends

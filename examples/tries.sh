@@ -34,10 +34,11 @@ complains_of_files() {
     complains "tasks.bin: 97 bytes aren't whole records of 32" "$@"
 }
 
-# tables TASKS SLOTS: the folder becomes the site with these lines, \n between them, in its tables.
+# tables TASKS SLOTS: the folder becomes the site with these lines, \n between them, in its tables. A slot of three numbers
+# loses nothing.
 tables() {
     printf 'id,w,e,D,h,m,k,first,count\n%b\n' "$1" >"$folder/tasks.csv"
-    printf 'start,end,owner\n%b\n' "$2" >"$folder/slots.csv"
+    printf 'start,end,owner,loss\n%b\n' "$2" | sed 's/^[0-9]*,[0-9]*,[0-9]*$/&,0/' >"$folder/slots.csv"
     "$records" make "$folder" 2>/dev/null
 }
 

@@ -54,7 +54,7 @@ uint32_t refusal_of_slot(const struct task *task, const uint8_t *slots, uint32_t
         return 16;
     if (place > 0 && start < get_number(slot - SLOT_BYTES + 4, 4))
         return 17;
-    if (get_number(slot + SPARE_AT, 2) != 0)
+    if (get_number(slot + LOSS_AT, 2) > end - start)
         return 18;
     return 0;
 }
@@ -106,9 +106,9 @@ uint32_t refusal_of_task(const uint8_t *bytes, const uint8_t *slots, size_t slot
     return number != 0 ? number : refusal_of_strips(&strips);
 }
 
-uint32_t refusal_of_marks(const uint8_t *marks, uint64_t n, uint64_t v)
+uint32_t refusal_of_marks(const uint8_t *marks, uint64_t n, uint64_t v, uint64_t loss)
 {
-    if (n == 0 || n > GRANT_SLOTS_MAX || v == 0 || v > WHEEL_MAX || n * v > WHEEL_MAX)
+    if (n == 0 || n > GRANT_SLOTS_MAX || v == 0 || v > WHEEL_MAX || n * v > WHEEL_MAX || loss > v)
         return 12;
     for (uint64_t i = 0; i < n; i++)
         if (marks[i] > 1)
@@ -118,26 +118,43 @@ uint32_t refusal_of_marks(const uint8_t *marks, uint64_t n, uint64_t v)
 
 /* ---- rules 1 to 7 ---- */
 
-/* The slots whose owner is the task's id. */
+/* The slot at a place of the task's part where the task owns it, else NULL. */
+static const uint8_t *own_slot(const struct task *task, const uint8_t *slots, uint32_t place)
+{
+    const uint8_t *slot = slots + (size_t)(task->first + place) * SLOT_BYTES;
+    return get_number(slot + OWNER_AT, 2) == task->id ? slot : NULL;
+}
+
+/* The ends are marked before any start is looked at: the one that a slot touches may stand anywhere in the part. */
 void wheel_of_task(struct wheel *wheel, const struct task *task, const uint8_t *slots)
 {
+    bool ends[WHEEL_MAX];
     wheel->w = task->w;
     memset(wheel->usable, 0, task->w);
-    for (uint32_t i = 0; i < task->count; i++) {
-        const uint8_t *slot = slots + (size_t)(task->first + i) * SLOT_BYTES;
-        if (get_number(slot + OWNER_AT, 2) != task->id)
+    memset(ends, false, task->w);
+    for (uint32_t place = 0; place < task->count; place++) {
+        const uint8_t *slot = own_slot(task, slots, place);
+        if (slot != NULL)
+            ends[get_number(slot + 4, 4) % task->w] = true;
+    }
+    for (uint32_t place = 0; place < task->count; place++) {
+        const uint8_t *slot = own_slot(task, slots, place);
+        if (slot == NULL)
             continue;
-        uint32_t end = get_number(slot + 4, 4);
-        for (uint32_t tick = get_number(slot, 4); tick < end; tick++)
-            wheel->usable[tick] = 1;
+        const uint32_t start = get_number(slot, 4), end = get_number(slot + 4, 4), loss = get_number(slot + LOSS_AT, 2);
+        for (uint32_t tick = start; tick < end; tick++)
+            if (ends[start] || tick - start >= loss)
+                wheel->usable[tick] = 1;
     }
 }
 
-void wheel_of_grid(struct wheel *wheel, const uint8_t *pick, uint64_t n, uint64_t v)
+void wheel_of_grid(struct wheel *wheel, const uint8_t *pick, uint64_t n, uint64_t v, uint64_t loss)
 {
     wheel->w = (uint32_t)(n * v);
-    for (uint32_t tick = 0; tick < wheel->w; tick++)
-        wheel->usable[tick] = pick[tick / v] == 1;
+    for (uint32_t tick = 0; tick < wheel->w; tick++) {
+        const uint64_t slot = tick / v, before = (slot + n - 1) % n;
+        wheel->usable[tick] = pick[slot] == 1 && (pick[before] == 1 || tick % v >= loss);
+    }
 }
 
 /* One turn in cells of 1/q: cell i lies in tick i / q (rule 5). */
@@ -451,25 +468,25 @@ const uint8_t *definition_lookup(const uint8_t *site, size_t site_len, const uin
     return found != NULL ? found : first_with(factory, factory_len, id);
 }
 
-static bool is_firm(const uint8_t *pick, size_t n, uint64_t v, const struct strips *strips)
+static bool is_firm(const uint8_t *pick, size_t n, uint64_t v, uint64_t loss, const struct strips *strips)
 {
     struct wheel wheel;
-    wheel_of_grid(&wheel, pick, n, v);
+    wheel_of_grid(&wheel, pick, n, v, loss);
     return verdict_of(&wheel, strips).firm;
 }
 
 /* Takes one more free slot each time; what is tried is a copy, so a refusal moves no mark. */
-uint64_t definition_grant(uint8_t *marks, size_t n, uint64_t v, const struct strips *strips)
+uint64_t definition_grant(uint8_t *marks, size_t n, uint64_t v, uint64_t loss, const struct strips *strips)
 {
     uint8_t pick[GRANT_SLOTS_MAX] = {0};
-    uint32_t number = refusal_of_marks(marks, n, v);
+    uint32_t number = refusal_of_marks(marks, n, v, loss);
     if (number == 0)
         number = refusal_of_strips(strips);
     if (number != 0)
         return packed(number, 0);
     uint32_t granted = 0;
     size_t next = 0;
-    while (!is_firm(pick, n, v, strips)) {
+    while (!is_firm(pick, n, v, loss, strips)) {
         while (next < n && marks[next] == 0)
             next++;
         if (next == n)
@@ -483,7 +500,7 @@ uint64_t definition_grant(uint8_t *marks, size_t n, uint64_t v, const struct str
     return packed(0, granted);
 }
 
-bool some_set_is_firm(const uint8_t *marks, size_t n, uint64_t v, const struct strips *strips)
+bool some_set_is_firm(const uint8_t *marks, size_t n, uint64_t v, uint64_t loss, const struct strips *strips)
 {
     size_t free_slots = 0;
     for (size_t i = 0; i < n; i++)
@@ -496,7 +513,7 @@ bool some_set_is_firm(const uint8_t *marks, size_t n, uint64_t v, const struct s
                 pick[i] = members % 2;
                 members /= 2;
             }
-        if (is_firm(pick, n, v, strips))
+        if (is_firm(pick, n, v, loss, strips))
             return true;
     }
     return false;

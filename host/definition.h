@@ -14,14 +14,15 @@ enum {
     SLOTS_MAX = 512,
     GRANT_SLOTS_MAX = 64,
     ID_MAX = 65535,
+    LOSS_MAX = 65535, /* that a slot record can hold */
     NEED_MAX = 1000000,
     PERIOD_MAX = 1000000,
     STRIPS_MAX = 1024,
     TASK_BYTES = 32,
     FIRST_AT = 28, /* where a task record's first begins, and its count behind that */
     SLOT_BYTES = 12,
-    OWNER_AT = 8,  /* where a slot record's owner begins */
-    SPARE_AT = 10, /* and its two spare bytes */
+    OWNER_AT = 8, /* where a slot record's owner begins */
+    LOSS_AT = 10, /* and its loss */
     ANSWER_BYTES = 20,
     MARGIN_AT = 16, /* where the least margin, the last field, begins in an answer record */
     Q_MAX = 12 /* the finest cells tried are twelfths of a tick */
@@ -37,7 +38,7 @@ struct strips {
     uint64_t e, D, h, m, k;
 };
 
-/* One turn of the wheel: is the tick inside a slot of the task's? */
+/* One turn of the wheel: does a slot of the task's give it the tick? */
 struct wheel {
     uint32_t w;
     uint8_t usable[WHEEL_MAX];
@@ -81,11 +82,12 @@ uint32_t refusal_of_task(const uint8_t *task, const uint8_t *slots, size_t slots
 /* Refusals 15 to 18 of the slot at a place of the task's part, whoever owns it and whatever the others are like. */
 uint32_t refusal_of_slot(const struct task *task, const uint8_t *slots, uint32_t place);
 uint32_t refusal_of_strips(const struct strips *strips);
-uint32_t refusal_of_marks(const uint8_t *marks, uint64_t n, uint64_t v);
+uint32_t refusal_of_marks(const uint8_t *marks, uint64_t n, uint64_t v, uint64_t loss);
 
+/* Rule 1. A slot without a tick, of a table that would be refused, gives none. */
 void wheel_of_task(struct wheel *wheel, const struct task *task, const uint8_t *slots);
-/* Slot i of n equal ones is usable when pick[i] is 1. */
-void wheel_of_grid(struct wheel *wheel, const uint8_t *pick, uint64_t n, uint64_t v);
+/* The same of n equal slots, of which the task has slot i when pick[i] is 1. */
+void wheel_of_grid(struct wheel *wheel, const uint8_t *pick, uint64_t n, uint64_t v, uint64_t loss);
 
 /* Rule 2 at p/q, in units of 1/q. */
 uint64_t supply_at(const struct wheel *wheel, uint64_t D, uint64_t q, uint64_t p);
@@ -117,13 +119,13 @@ uint64_t definition_drop_test(const uint8_t *task, size_t task_len, const uint8_
 /* Every record of a site by itself; what the records' own verdicts are, the reply tells. */
 uint32_t definition_site(const uint8_t *tasks, size_t tasks_len, const uint8_t *slots, size_t slots_len,
                          uint8_t *reply, size_t reply_len);
-uint64_t definition_grant(uint8_t *marks, size_t n, uint64_t v, const struct strips *strips);
+uint64_t definition_grant(uint8_t *marks, size_t n, uint64_t v, uint64_t loss, const struct strips *strips);
 
 /* Where the first whole record with the id begins, in the site file before the factory file; NULL where neither has it. */
 const uint8_t *definition_lookup(const uint8_t *site, size_t site_len, const uint8_t *factory, size_t factory_len,
                                  uint32_t id);
 
 /* Refusal 13 word for word: is any set of the free slots firm? For few free slots. */
-bool some_set_is_firm(const uint8_t *marks, size_t n, uint64_t v, const struct strips *strips);
+bool some_set_is_firm(const uint8_t *marks, size_t n, uint64_t v, uint64_t loss, const struct strips *strips);
 
 #endif

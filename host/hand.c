@@ -1,6 +1,7 @@
 /*
  * docs/RULES.md, "Cases by hand" and "The printed sheet"; margins; strips that go round a small wheel; verdicts that
- * hang by a strip; boards of several owners; slot tables with their first bad slot; pairs of boards; see hand.h.
+ * hang by a strip; boards of several owners; slots that start late; slot tables with their first bad slot; pairs of
+ * boards; see hand.h.
  */
 #include "hand.h"
 
@@ -10,8 +11,8 @@
 #define PACKED(number, value) ((uint64_t)(number) * 4294967296u + (value))
 #define ANSWERS(n) ((n) * ANSWER_BYTES)
 
-/* A slot record's fields, in order; spare bytes that aren't named are zero. */
-enum { SLOT_START, SLOT_END, SLOT_OWNER, SLOT_SPARE, SLOT_FIELDS };
+/* A slot record's fields, in order; a loss that isn't named is zero. */
+enum { SLOT_START, SLOT_END, SLOT_OWNER, SLOT_LOSS, SLOT_FIELDS };
 
 struct hand_task {
     const char *name;
@@ -32,6 +33,16 @@ struct hand_reply {
 /* A half tick of T. */
 struct hand_point {
     const char *name;
+    uint64_t offset, count, supply;
+    int32_t margin; /* in half ticks */
+};
+
+/* A half tick of a task with slots that start late. */
+struct hand_late {
+    const char *name;
+    struct task task;
+    const uint32_t (*slots)[SLOT_FIELDS];
+    size_t records;
     uint64_t offset, count, supply;
     int32_t margin; /* in half ticks */
 };
@@ -61,7 +72,8 @@ struct hand_round {
 
 struct hand_grant {
     const char *name;
-    uint64_t v, e, m;
+    size_t n;
+    uint64_t v, loss, e, m;
     uint8_t marks[5], after[5];
     uint64_t result;
 };
@@ -117,15 +129,18 @@ struct hand_length {
 /* T of the paper: w 10, slot (0,8), e 4, D 5, h 14, k 2; one field is changed at a time. Its id is 7. */
 #define T(E, M) {7, 10, (E), 5, 14, (M), 2, 0, 1}
 #define T_SLOT SLOTS({0, 8, 7})
+/* The same with e 3, on another part of the slots; and that with a hundred ticks for each. */
+#define T_3(FIRST, COUNT) {7, 10, 3, 5, 14, 1, 2, (FIRST), (COUNT)}
+#define T_100 {7, 1000, 300, 500, 1400, 1, 2, 0, 1}
 /* The same with other strips to be painted and looked at. */
 #define T_MK(M, K) {7, 10, 4, 5, 14, (M), (K), 0, 1}
 /* The same with another id, on another part of the slots. */
 #define T_OF(ID, FIRST, COUNT) {(ID), 10, 4, 5, 14, 1, 2, (FIRST), (COUNT)}
 
-/* Slots of one tick each, so many ticks apart, whose owners are a and b by turns. */
-#define TICK(i, apart, owner) {(i) * (apart), (i) * (apart) + 1, (owner)}
-#define FOUR(i, apart, a, b) \
-    TICK(i, apart, a), TICK((i) + 1, apart, b), TICK((i) + 2, apart, a), TICK((i) + 3, apart, b)
+/* Slots of one tick each, so many ticks apart, whose owners are a and b by turns, all with the same loss. */
+#define TICK(i, apart, owner, loss) {(i) * (apart), (i) * (apart) + 1, (owner), (loss)}
+#define FOUR(i, apart, a, b, loss) \
+    TICK(i, apart, a, loss), TICK((i) + 1, apart, b, loss), TICK((i) + 2, apart, a, loss), TICK((i) + 3, apart, b, loss)
 #define SIXTEEN(i, ...) \
     FOUR(i, __VA_ARGS__), FOUR((i) + 4, __VA_ARGS__), FOUR((i) + 8, __VA_ARGS__), FOUR((i) + 12, __VA_ARGS__)
 #define SIXTY_FOUR(i, ...) \
@@ -137,10 +152,15 @@ struct hand_length {
 #define BOARD(...) HALF_A_BOARD(0, __VA_ARGS__), HALF_A_BOARD(256, __VA_ARGS__)
 
 /* T's slots, which fill a wheel of 513; T's and another's by turns; T's with a tick between; slots without a tick. */
-static const uint32_t ticks[513][SLOT_FIELDS] = {BOARD(1, 7, 7), TICK(512, 1, 7)};
-static const uint32_t by_turns[512][SLOT_FIELDS] = {BOARD(1, 7, 9)};
-static const uint32_t apart[512][SLOT_FIELDS] = {BOARD(2, 7, 7)};
+static const uint32_t ticks[513][SLOT_FIELDS] = {BOARD(1, 7, 7, 0), TICK(512, 1, 7, 0)};
+static const uint32_t by_turns[512][SLOT_FIELDS] = {BOARD(1, 7, 9, 0)};
+static const uint32_t apart[512][SLOT_FIELDS] = {BOARD(2, 7, 7, 0)};
 static const uint32_t nothing[513][SLOT_FIELDS] = {{0, 0, 7}};
+
+/* The first three once more, with each tick lost where its slot touches none of its owner's. */
+static const uint32_t late[512][SLOT_FIELDS] = {BOARD(1, 7, 7, 1)};
+static const uint32_t late_by_turns[512][SLOT_FIELDS] = {BOARD(1, 7, 9, 1)};
+static const uint32_t late_apart[512][SLOT_FIELDS] = {BOARD(2, 7, 7, 1)};
 
 static const struct hand_task tasks[] = {
     {"P5", T(4, 1), T_SLOT, 0, 0, 2, 9, -1},
@@ -185,7 +205,7 @@ static const struct hand_task tasks[] = {
     /* Ticks 0 to 3 alone: the supply at ticks 0 to 9 is 4 3 2 1 0 0 1 2 3 4, so one may arrive from 9 to 10. */
     {"an owner with another upper byte", T_OF(7, 0, 2), SLOTS({0, 4, 7}, {4, 8, 263}), 0, 0, 2, 1, -4},
     /* With e 3 strips drop from 1 to 8; were the other's ticks the task's, too, none would, as in P7. */
-    {"the same with e 3", {7, 10, 3, 5, 14, 1, 2, 0, 2}, SLOTS({0, 4, 7}, {4, 8, 263}), 0, 0, 2, 3, -3},
+    {"the same with e 3", T_3(0, 2), SLOTS({0, 4, 7}, {4, 8, 263}), 0, 0, 2, 3, -3},
     {"an owner without the upper byte", T_OF(519, 0, 2), SLOTS({0, 4, 519}, {4, 8, 7}), 0, 0, 2, 1, -4},
     {"an owner with another lower byte", T_OF(519, 0, 2), SLOTS({0, 4, 519}, {4, 8, 518}), 0, 0, 2, 1, -4},
     {"an owner with the bytes exchanged", T_OF(519, 0, 2), SLOTS({0, 4, 519}, {4, 8, 1794}), 0, 0, 2, 1, -4},
@@ -229,14 +249,65 @@ static const struct hand_task tasks[] = {
      5, -1},
     {"it shows from a gap at the wheel's end", {7, 20, 1, 1, 10, 1, 2, 0, 2}, SLOTS({1, 6, 7}, {10, 20, 7}), 0, 0, 2,
      19, -1},
+    /* Without T's first tick the supply at ticks 0 to 9 is 4 5 5 5 4 3 2 2 2 3: with e 3 strips drop from 5 to 9. */
+    {"P7 with its first tick lost: strips drop", T(3, 1), SLOTS({0, 8, 7, 1}), 0, 1, 1, 3, -1},
+    {"the same with m as large as k", T(3, 2), SLOTS({0, 8, 7, 1}), 0, 0, 1, 3, -1},
+    {"the same with e 2: none drops", T(2, 1), SLOTS({0, 8, 7, 1}), 0, 1, 0, 0, 0},
+    {"all of T's ticks but one lost", T(1, 1), SLOTS({0, 8, 7, 7}), 0, 0, 2, 15, -1},
+    {"all of T's ticks lost", T(3, 1), SLOTS({0, 8, 7, 8}), 0, 0, 2, 0, -3},
+    {"a tick more than T has is refusal 18", T(3, 1), SLOTS({0, 8, 7, 9}), 18, 0, 0, 0, 0},
+    {"P9 with a loss in the slot that touches", T_OF(7, 0, 2), SLOTS({0, 4, 7}, {4, 8, 7, 4}), 0, 0, 2, 9, -1},
+    {"P9 with a loss in the slot before that", T_OF(7, 0, 2), SLOTS({0, 4, 7, 1}, {4, 8, 7}), 0, 0, 2, 9, -2},
+    {"P9 with a loss in both", T_OF(7, 0, 2), SLOTS({0, 4, 7, 1}, {4, 8, 7, 1}), 0, 0, 2, 9, -2},
+    {"a tick between the two, and the second loses", T_OF(7, 0, 2), SLOTS({0, 4, 7}, {5, 8, 7, 1}), 0, 0, 2, 1, -2},
+    {"behind a slot that is all lost nothing is lost", T_3(0, 2), SLOTS({0, 4, 7, 4}, {4, 8, 7, 4}), 0, 0, 2, 3, -3},
+    {"the same with three slots that touch", T_3(0, 3), SLOTS({0, 2, 7, 2}, {2, 4, 7, 2}, {4, 8, 7, 4}),
+     0, 0, 2, 11, -2},
+    {"round the end of the wheel nothing is lost", T_3(0, 2), SLOTS({0, 4, 7, 4}, {6, 10, 7}), 0, 1, 0, 0, 0},
+    {"the slot before it loses", T_3(0, 2), SLOTS({0, 4, 7, 4}, {6, 10, 7, 1}), 0, 1, 1, 0, -1},
+    {"round the end behind a slot that is all lost", T_3(0, 2), SLOTS({0, 4, 7, 4}, {6, 10, 7, 4}), 0, 0, 2, 3, -3},
+    {"round the end, and another's slot amid the two", T_3(0, 3), SLOTS({0, 4, 7, 2}, {4, 6, 9, 2}, {6, 10, 7}),
+     0, 1, 0, 0, 0},
+    {"round the end another's slot isn't touched", T_3(0, 3), SLOTS({0, 4, 7, 1}, {4, 6, 7}, {6, 10, 9}),
+     0, 0, 2, 7, -3},
+    {"a slot that ends at 9 isn't touched from 0", T_3(0, 2), SLOTS({0, 4, 7, 1}, {5, 9, 7}), 0, 1, 0, 0, 0},
+    {"a slot that ends at 10 is touched from 0", T_3(0, 2), SLOTS({0, 4, 7, 1}, {5, 10, 7}), 0, 1, 0, 0, 1},
+    {"a slot that ends at 10 isn't touched from 1", T_3(0, 2), SLOTS({1, 4, 7, 1}, {5, 10, 7}), 0, 1, 1, 0, -1},
+    {"a slot that fills the wheel loses nothing", T(4, 1), SLOTS({0, 10, 7, 10}), 0, 1, 0, 0, 1},
+    {"the same with e 5 and m as large as k", T(5, 2), SLOTS({0, 10, 7, 10}), 0, 1, 0, 0, 0},
+    {"a tick more than the wheel has is refusal 18", T(4, 1), SLOTS({0, 10, 7, 11}), 18, 0, 0, 0, 0},
+    {"two that fill the wheel lose nothing", {7, 10, 5, 5, 14, 2, 2, 0, 2}, SLOTS({0, 4, 7, 4}, {4, 10, 7, 6}),
+     0, 1, 0, 0, 0},
+    {"with another the second loses", T_3(0, 2), SLOTS({0, 4, 9, 4}, {4, 10, 7, 1}), 0, 0, 2, 15, -3},
+    {"the only tick of a wheel isn't lost", {7, 1, 1, 1, 1, 1, 1, 0, 1}, SLOTS({0, 1, 7, 1}), 0, 1, 0, 0, 0},
+    {"another's slot before it isn't touched", {7, 10, 2, 5, 14, 1, 2, 0, 2}, SLOTS({0, 2, 9}, {2, 10, 7, 1}),
+     0, 1, 0, 0, 0},
+    {"a record before the part isn't touched", T_3(1, 1), SLOTS({0, 2, 7}, {2, 10, 7, 1}), 0, 1, 1, 0, -1},
+    {"a record behind the part isn't touched round the end", T_3(0, 1), SLOTS({0, 8, 7, 1}, {8, 10, 7}),
+     0, 1, 1, 3, -1},
+    {"in the part it is", T_3(0, 2), SLOTS({0, 8, 7, 1}, {8, 10, 7}), 0, 1, 0, 0, 2},
+    {"an owner with another upper byte isn't touched", T_3(0, 2), SLOTS({0, 8, 7, 1}, {8, 10, 263}), 0, 1, 1, 3, -1},
+    {"another owner's loss is nothing to P5", T_OF(7, 0, 2), SLOTS({0, 8, 7}, {8, 10, 9, 2}), 0, 0, 2, 9, -1},
+    /* On a wheel this long both bytes of a loss count. */
+    {"a loss of 1", T_100, SLOTS({0, 800, 7, 1}), 0, 1, 1, 201, -1},
+    {"a loss of 256", T_100, SLOTS({0, 800, 7, 256}), 0, 0, 2, 1001, -256},
+    {"a loss of 257", T_100, SLOTS({0, 800, 7, 257}), 0, 0, 2, 1001, -257},
+    {"a loss of 800 is all of (0,800)", T_100, SLOTS({0, 800, 7, 800}), 0, 0, 2, 0, -300},
+    {"a loss of 801 is refusal 18", T_100, SLOTS({0, 800, 7, 801}), 18, 0, 0, 0, 0},
+    {"a loss of 1,024 is refusal 18", T_100, SLOTS({0, 800, 7, 1024}), 18, 0, 0, 0, 0},
+    {"512 slots of a tick each that fill a wheel lose none", {7, 512, 3, 3, 5, 1, 2, 0, 512}, late, 512, 0, 1, 0, 0, 0},
+    {"with a tick beside them the first is lost", {7, 513, 3, 3, 5, 1, 2, 0, 512}, late, 512, 0, 1, 1, 0, -2},
+    {"by turns with another's each one is lost", {7, 512, 1, 1, 2, 0, 2, 0, 512}, late_by_turns, 512, 0, 1, 2, 0, -1},
+    {"with ticks between each one is lost", {7, 1024, 1, 1, 2, 1, 2, 0, 512}, late_apart, 512, 0, 0, 2, 0, -1},
     {"513 slots are refusal 14", {7, 513, 4, 5, 14, 1, 2, 0, 513}, ticks, 513, 14, 0, 0, 0, 0},
     {"another owner's (8,8) is refusal 15", T_OF(7, 0, 2), SLOTS({0, 8, 7}, {8, 8, 9}), 15, 0, 0, 0, 0},
     {"another owner's (8,11) is refusal 16", T_OF(7, 0, 2), SLOTS({0, 8, 7}, {8, 11, 9}), 16, 0, 0, 0, 0},
     {"another owner's (7,10) is refusal 17", T_OF(7, 0, 2), SLOTS({0, 8, 7}, {7, 10, 9}), 17, 0, 0, 0, 0},
-    {"another owner's spare byte is refusal 18", T_OF(7, 0, 2), SLOTS({0, 8, 7}, {8, 10, 9, 1}), 18, 0, 0, 0, 0},
-    {"a spare byte is refusal 18", T(4, 1), SLOTS({0, 8, 7, 1}), 18, 0, 0, 0, 0},
-    {"the other spare byte and e 0 is refusal 18", T(0, 1), SLOTS({0, 8, 7, 256}), 18, 0, 0, 0, 0},
-    {"(3,8) with a spare byte is refusal 17", T_OF(7, 0, 2), SLOTS({0, 4, 7}, {3, 8, 7, 1}), 17, 0, 0, 0, 0},
+    {"another owner's loss of 3 in (8,10) is refusal 18", T_OF(7, 0, 2), SLOTS({0, 8, 7}, {8, 10, 9, 3}), 18, 0, 0, 0,
+     0},
+    {"a loss of 65,535 is refusal 18", T(4, 1), SLOTS({0, 8, 7, 65535}), 18, 0, 0, 0, 0},
+    {"a loss of 256 and e 0 is refusal 18", T(0, 1), SLOTS({0, 8, 7, 256}), 18, 0, 0, 0, 0},
+    {"(3,8) with a loss of 6 is refusal 17", T_OF(7, 0, 2), SLOTS({0, 4, 7}, {3, 8, 7, 6}), 17, 0, 0, 0, 0},
     {"id 65,536 is refusal 19", T_OF(65536, 0, 1), SLOTS({0, 8, 0}), 19, 0, 0, 0, 0},
     {"id 65,543 is refusal 19, though 7 has a slot", T_OF(65543, 0, 1), T_SLOT, 19, 0, 0, 0, 0},
     {"id 2^32 - 1 is refusal 19", T_OF(UINT32_MAX, 0, 1), SLOTS({0, 8, 65535}), 19, 0, 0, 0, 0},
@@ -272,6 +343,29 @@ static const struct hand_point points[] = {
     {"T from half tick 13", 13, 1, 6, -2},
 };
 
+/* T's first tick is lost; then slots that touch or don't. */
+static const struct hand_late late_points[] = {
+    {"at the lost tick", T(3, 1), SLOTS({0, 8, 7, 1}), 0, 0, 8, 2},
+    {"half a tick later", T(3, 1), SLOTS({0, 8, 7, 1}), 1, 0, 9, 3},
+    {"behind the lost tick", T(3, 1), SLOTS({0, 8, 7, 1}), 2, 0, 10, 4},
+    {"where it just lasts", T(3, 1), SLOTS({0, 8, 7, 1}), 10, 0, 6, 0},
+    {"half a tick later it doesn't", T(3, 1), SLOTS({0, 8, 7, 1}), 11, 1, 5, -1},
+    {"with the whole tick lost", T(3, 1), SLOTS({0, 8, 7, 1}), 12, 1, 4, -2},
+    {"where it lasts again", T(3, 1), SLOTS({0, 8, 7, 1}), 18, 0, 6, 0},
+    {"half a tick before the lost one", T(3, 1), SLOTS({0, 8, 7, 1}), 19, 0, 7, 1},
+    {"a loss in a slot that touches doesn't show", T_OF(7, 0, 2), SLOTS({0, 4, 7}, {4, 8, 7, 4}), 9, 2, 7, -1},
+    {"nor behind a slot that is all lost", T_3(0, 2), SLOTS({0, 4, 7, 4}, {4, 8, 7, 4}), 7, 1, 8, 2},
+    {"but there it does", T_3(0, 2), SLOTS({0, 4, 7, 4}, {4, 8, 7, 4}), 0, 1, 2, -4},
+    {"round the end it doesn't show", T_3(0, 2), SLOTS({0, 4, 7, 4}, {6, 10, 7}), 16, 0, 10, 4},
+    {"round the end behind another's it does", T_3(0, 3), SLOTS({0, 4, 7, 1}, {4, 6, 7}, {6, 10, 9}), 19, 1, 7, 1},
+    {"on a full wheel it doesn't", T(4, 1), SLOTS({0, 10, 7, 10}), 19, 0, 10, 2},
+    {"behind a record before the part it does", T_3(1, 1), SLOTS({0, 2, 7}, {2, 10, 7, 1}), 3, 0, 7, 1},
+    {"behind a record behind the part it does", T_3(0, 1), SLOTS({0, 8, 7, 1}, {8, 10, 7}), 19, 0, 7, 1},
+    {"256 ticks lost", T_100, SLOTS({0, 800, 7, 256}), 0, 1, 488, -112},
+    {"257 ticks lost", T_100, SLOTS({0, 800, 7, 257}), 0, 1, 486, -114},
+    {"all 800 ticks lost", T_100, SLOTS({0, 800, 7, 800}), 1999, 2, 0, -600},
+};
+
 /* w 3, slot (0,1), e 1, D 1: a strip that arrives at tick 0 is painted, every other one is dropped. */
 static const struct {
     uint64_t supply;
@@ -301,23 +395,51 @@ static const struct hand_round rounds[] = {
     {"1,024 strips from tick 1", 1, 1024, 2, 683},
 };
 
-/* N 5, D 5, h 14, k 2. */
+/* N, v, the loss, e and m; D 5, h 14, k 2. */
 static const struct hand_grant grants[] = {
-    {"P12", 2, 4, 1, {1, 1, 1, 1, 1}, {2, 2, 2, 2, 2}, PACKED(0, 5)},
-    {"P13", 2, 3, 1, {1, 1, 1, 1, 1}, {2, 2, 2, 2, 1}, PACKED(0, 4)},
-    {"P14", 2, 4, 1, {1, 1, 1, 1, 0}, {1, 1, 1, 1, 0}, PACKED(13, 0)},
-    {"a grant with m 0", 2, 4, 0, {1, 1, 1, 1, 0}, {1, 1, 1, 1, 0}, PACKED(0, 0)},
-    {"a grant over a 2", 2, 4, 1, {1, 2, 1, 1, 1}, {1, 2, 1, 1, 1}, PACKED(12, 0)},
+    {"P12", 5, 2, 0, 4, 1, {1, 1, 1, 1, 1}, {2, 2, 2, 2, 2}, PACKED(0, 5)},
+    {"P13", 5, 2, 0, 3, 1, {1, 1, 1, 1, 1}, {2, 2, 2, 2, 1}, PACKED(0, 4)},
+    {"P14", 5, 2, 0, 4, 1, {1, 1, 1, 1, 0}, {1, 1, 1, 1, 0}, PACKED(13, 0)},
+    {"a grant with m 0", 5, 2, 0, 4, 0, {1, 1, 1, 1, 0}, {1, 1, 1, 1, 0}, PACKED(0, 0)},
+    {"a grant over a 2", 5, 2, 0, 4, 1, {1, 2, 1, 1, 1}, {1, 2, 1, 1, 1}, PACKED(12, 0)},
+    {"P12 with all ticks lost: all slots lose none", 5, 2, 2, 4, 1, {1, 1, 1, 1, 1}, {2, 2, 2, 2, 2}, PACKED(0, 5)},
+    {"P13 with a tick lost", 5, 2, 1, 3, 1, {1, 1, 1, 1, 1}, {2, 2, 2, 2, 1}, PACKED(0, 4)},
+    {"P13 with both ticks lost: one slot more", 5, 2, 2, 3, 1, {1, 1, 1, 1, 1}, {2, 2, 2, 2, 2}, PACKED(0, 5)},
+    {"the same with the last slot taken: 13", 5, 2, 2, 3, 1, {1, 1, 1, 1, 0}, {1, 1, 1, 1, 0}, PACKED(13, 0)},
+    {"the same with the first slot taken: 13", 5, 2, 2, 3, 1, {0, 1, 1, 1, 1}, {0, 1, 1, 1, 1}, PACKED(13, 0)},
+    {"behind a taken slot a tick is lost: one slot more", 5, 2, 1, 3, 1, {1, 0, 1, 1, 1}, {2, 0, 2, 2, 2},
+     PACKED(0, 4)},
+    {"the last slot and the first, round the end", 5, 2, 2, 2, 1, {1, 0, 1, 1, 1}, {2, 0, 2, 2, 2}, PACKED(0, 4)},
+    {"the last but one taken", 5, 2, 1, 3, 1, {1, 1, 0, 1, 1}, {2, 2, 0, 2, 2}, PACKED(0, 4)},
+    {"a free slot before the first helps only once it is granted", 2, 5, 1, 2, 1, {1, 1}, {2, 2}, PACKED(0, 2)},
+    {"a taken slot before it doesn't help", 2, 5, 1, 2, 1, {1, 0}, {1, 0}, PACKED(13, 0)},
+    {"nor one before the second", 2, 5, 1, 2, 1, {0, 1}, {0, 1}, PACKED(13, 0)},
+    {"with nothing lost one slot does", 2, 5, 0, 2, 1, {1, 0}, {2, 0}, PACKED(0, 1)},
+    {"the only slot loses none", 1, 10, 10, 5, 1, {1}, {2}, PACKED(0, 1)},
+    {"the only slot gives no e 6", 1, 10, 10, 6, 1, {1}, {1}, PACKED(13, 0)},
+    {"the only slot is taken", 1, 10, 10, 5, 1, {0}, {0}, PACKED(13, 0)},
+    {"m 0 and a loss", 5, 2, 2, 4, 0, {0, 1, 1, 1, 1}, {0, 1, 1, 1, 1}, PACKED(0, 0)},
+    {"a loss of v + 1 is 12", 5, 2, 3, 3, 1, {1, 1, 1, 1, 1}, {1, 1, 1, 1, 1}, PACKED(12, 0)},
+    {"a loss of v + 1 is 12, though nothing would be lost", 1, 10, 11, 5, 1, {1}, {1}, PACKED(12, 0)},
+    {"a loss of v + 1 is 12 before 6", 5, 2, 3, 0, 1, {1, 1, 1, 1, 1}, {1, 1, 1, 1, 1}, PACKED(12, 0)},
+    {"a loss of v and e 0 is 6", 5, 2, 2, 0, 1, {1, 1, 1, 1, 1}, {1, 1, 1, 1, 1}, PACKED(6, 0)},
+    {"a loss of v + 1 is 12 with m 0", 5, 2, 3, 3, 0, {1, 1, 1, 1, 1}, {1, 1, 1, 1, 1}, PACKED(12, 0)},
+    {"a loss of 1 and v 0 is 12", 5, 0, 1, 3, 1, {1, 1, 1, 1, 1}, {1, 1, 1, 1, 1}, PACKED(12, 0)},
+    {"a loss of 2^32 is 12", 5, 2, 4294967296, 3, 1, {1, 1, 1, 1, 1}, {1, 1, 1, 1, 1}, PACKED(12, 0)},
+    {"a loss of 2^32 + 1 is 12", 5, 2, 4294967297, 3, 1, {1, 1, 1, 1, 1}, {1, 1, 1, 1, 1}, PACKED(12, 0)},
+    {"a loss of 2^63 is 12", 5, 2, 9223372036854775808u, 3, 1, {1, 1, 1, 1, 1}, {1, 1, 1, 1, 1}, PACKED(12, 0)},
+    {"a loss of 2^64 - 1 is 12", 5, 2, UINT64_MAX, 3, 1, {1, 1, 1, 1, 1}, {1, 1, 1, 1, 1}, PACKED(12, 0)},
 };
 
 /*
  * The sheet's slots, and its three tasks with its three lines as answers; then T with e 3, which is P7, and P10; then
  * T with boards that get 15, 16, 17 (against the sheet's third slot) and 18, and on that slot with an id that gets 19;
- * then four tasks of one board, of which the last has no slot there.
+ * then four tasks of one board, of which the last has no slot there; then two of a board with losses.
  */
 static const uint32_t site_slots[][SLOT_FIELDS] = {
     {11, 21, 1}, {33, 43, 1}, {0, 8, 2}, {7, 9, 6},  {8, 8, 4},  {7, 11, 5},
     {0, 8, 258}, {0, 8, 8, 256}, {0, 3, 20}, {3, 5, 21}, {5, 8, 20}, {8, 10, 22},
+    {0, 3, 30, 1}, {3, 5, 31, 1}, {5, 8, 30}, {8, 10, 30, 1},
 };
 
 enum {
@@ -334,7 +456,9 @@ enum {
     PAINTER,
     CLOCK,
     CHIME,
-    GUEST
+    GUEST,
+    LATE_PAINTER,
+    LATE_CLOCK
 };
 
 static const struct hand_sign signs[] = {
@@ -356,6 +480,12 @@ static const struct hand_sign signs[] = {
     [CLOCK] = {{21, 10, 2, 10, 10, 3, 3, 8, 4}, {21, 0, 0, 0, 0, 0, 1, 0, 0, 0, 0, 0, 0, 0, 0, 0, 0, 0, 0, 0}},
     [CHIME] = {{22, 10, 3, 10, 10, 1, 3, 8, 4}, {22, 0, 0, 0, 0, 0, 0, 0, 3, 0, 0, 0, 0, 0, 0, 0, 255, 255, 255, 255}},
     [GUEST] = {{23, 10, 1, 5, 5, 1, 3, 8, 4}, {23, 0, 0, 0, 0, 0, 0, 0, 3, 0, 0, 0, 0, 0, 0, 0, 255, 255, 255, 255}},
+    /* Its slots touch, round the end as well, and lose nothing: the supply at ticks 0 to 9 is 3 3 3 3 4 5 5 5 5 4. */
+    [LATE_PAINTER] = {{30, 10, 4, 5, 14, 1, 2, 12, 4},
+                      {30, 0, 0, 0, 0, 0, 0, 0, 2, 0, 0, 0, 19, 0, 0, 0, 255, 255, 255, 255}},
+    /* In a whole turn it has one of its two ticks. */
+    [LATE_CLOCK] = {{31, 10, 2, 10, 10, 1, 3, 12, 4},
+                    {31, 0, 0, 0, 0, 0, 0, 0, 3, 0, 0, 0, 0, 0, 0, 0, 255, 255, 255, 255}},
 };
 
 static const struct hand_site sites[] = {
@@ -375,6 +505,7 @@ static const struct hand_site sites[] = {
     {"refusals 18 and 19 beside T, in its slot", 3, {SIGN_18, SHEET_2, SIGN_19}, 96, RECORDS(8), ANSWERS(3), 0},
     {"three tasks on one board", 3, {PAINTER, CLOCK, CHIME}, 96, RECORDS(12), ANSWERS(3), 0},
     {"a task without slots on the board of two", 3, {CHIME, GUEST, PAINTER}, 96, RECORDS(12), ANSWERS(3), 0},
+    {"two tasks on a board with losses", 3, {LATE_PAINTER, LATE_CLOCK, PAINTER}, 96, RECORDS(16), ANSWERS(3), 0},
     {"tasks of 31 bytes are refusal 1", 1, {SHEET_1}, 31, RECORDS(3), ANSWERS(3), 1},
     {"tasks of 33 bytes are refusal 1", 2, {SHEET_1, SHEET_2}, 33, RECORDS(3), ANSWERS(3), 1},
     {"tasks of 63 bytes are refusal 1", 2, {SHEET_1, SHEET_2}, 63, RECORDS(3), ANSWERS(3), 1},
@@ -447,29 +578,43 @@ static const struct hand_table tables[] = {
     {"a start of 2^32 - 1", 7, 10, 4, 0, 1, SLOTS({UINT32_MAX, 8, 7}), 15, 0},
     {"an end of 2^32 - 1", 7, 10, 4, 0, 1, SLOTS({0, UINT32_MAX, 7}), 16, 0},
     {"both 2^32 - 1", 7, 10, 4, 0, 2, SLOTS({0, 8, 7}, {UINT32_MAX, UINT32_MAX, 7}), 15, 1},
-    {"18 by the first byte in the first slot", 7, 10, 4, 0, 3, SLOTS({0, 4, 7, 1}, {4, 8, 7}, {8, 10, 7}), 18, 0},
+    {"losses as long as their slots are good", 7, 10, 4, 0, 3, SLOTS({0, 4, 7, 4}, {4, 8, 9, 4}, {8, 10, 7, 2}), 0, 0},
+    {"all of T's ticks lost is good", 7, 10, 4, 0, 1, SLOTS({0, 8, 7, 8}), 0, 0},
+    {"18 by a tick", 7, 10, 4, 0, 1, SLOTS({0, 8, 7, 9}), 18, 0},
+    {"18 in a slot that touches", 7, 10, 4, 0, 2, SLOTS({0, 4, 7}, {4, 8, 7, 5}), 18, 1},
+    {"18 in a slot that touches round the end", 7, 10, 4, 0, 2, SLOTS({0, 4, 7, 5}, {6, 10, 7}), 18, 0},
+    {"a loss of a whole wheel is good", 7, 10, 4, 0, 1, SLOTS({0, 10, 7, 10}), 0, 0},
+    {"18 by a tick on a full wheel", 7, 10, 4, 0, 1, SLOTS({0, 10, 7, 11}), 18, 0},
+    {"a loss of the largest wheel is good", 7, 16384, 4, 0, 1, SLOTS({0, 16384, 7, 16384}), 0, 0},
+    {"18 by a tick there", 7, 16384, 4, 0, 1, SLOTS({0, 16384, 7, 16385}), 18, 0},
+    {"a loss of 256 ticks of 256 is good", 7, 1000, 4, 0, 1, SLOTS({0, 256, 7, 256}), 0, 0},
+    {"256 ticks of 255 are 18", 7, 1000, 4, 0, 1, SLOTS({0, 255, 7, 256}), 18, 0},
+    {"257 ticks of 256 are 18", 7, 1000, 4, 0, 1, SLOTS({0, 256, 7, 257}), 18, 0},
+    {"512 ticks of 256 are 18", 7, 1000, 4, 0, 1, SLOTS({0, 256, 7, 512}), 18, 0},
+    {"512 slots, each with its tick lost, are good", 7, 512, 4, 0, 512, late, 512, 0, 0},
+    {"18 by the first byte in the first slot", 7, 10, 4, 0, 3, SLOTS({0, 4, 7, 5}, {4, 8, 7}, {8, 10, 7}), 18, 0},
     {"18 by the first byte in the middle", 7, 10, 4, 0, 3, SLOTS({0, 4, 7}, {4, 8, 7, 128}, {8, 10, 7}), 18, 1},
     {"18 by the first byte in the last slot", 7, 10, 4, 0, 3, SLOTS({0, 4, 7}, {4, 8, 7}, {8, 10, 7, 255}), 18, 2},
     {"18 by the second byte in the first slot", 7, 10, 4, 0, 3, SLOTS({0, 4, 7, 256}, {4, 8, 7}, {8, 10, 7}), 18, 0},
     {"18 by the second byte in the middle", 7, 10, 4, 0, 3, SLOTS({0, 4, 7}, {4, 8, 7, 32768}, {8, 10, 7}), 18, 1},
     {"18 by the second byte in the last slot", 7, 10, 4, 0, 3, SLOTS({0, 4, 7}, {4, 8, 7}, {8, 10, 7, 65280}), 18, 2},
     {"18 by both bytes", 7, 10, 4, 0, 1, SLOTS({0, 8, 7, 65535}), 18, 0},
-    {"18 beside e 0", 7, 10, 0, 0, 1, SLOTS({0, 8, 7, 1}), 18, 0},
-    {"no 18 from a record outside the part", 7, 10, 4, 1, 1, SLOTS({0, 1, 7, 1}, {1, 8, 7}, {8, 10, 7, 256}), 0, 0},
+    {"18 beside e 0", 7, 10, 0, 0, 1, SLOTS({0, 8, 7, 9}), 18, 0},
+    {"no 18 from a record outside the part", 7, 10, 4, 1, 1, SLOTS({0, 1, 7, 2}, {1, 8, 7}, {8, 10, 7, 256}), 0, 0},
     {"15 before 18", 7, 10, 4, 0, 2, SLOTS({0, 4, 7}, {8, 8, 7, 1}), 15, 1},
-    {"16 before 18", 7, 10, 4, 0, 2, SLOTS({0, 4, 7}, {4, 11, 7, 1}), 16, 1},
-    {"17 before 18", 7, 10, 4, 0, 2, SLOTS({0, 4, 7}, {3, 8, 7, 1}), 17, 1},
-    {"18, then 15", 7, 10, 4, 0, 2, SLOTS({0, 4, 7, 1}, {8, 8, 7}), 18, 0},
+    {"16 before 18", 7, 10, 4, 0, 2, SLOTS({0, 4, 7}, {4, 11, 7, 8}), 16, 1},
+    {"17 before 18", 7, 10, 4, 0, 2, SLOTS({0, 4, 7}, {3, 8, 7, 6}), 17, 1},
+    {"18, then 15", 7, 10, 4, 0, 2, SLOTS({0, 4, 7, 5}, {8, 8, 7}), 18, 0},
     {"18, then 17", 7, 10, 4, 0, 2, SLOTS({0, 4, 7, 256}, {3, 8, 7}), 18, 0},
-    {"15, then 18", 7, 10, 4, 0, 2, SLOTS({4, 4, 7}, {4, 8, 7, 1}), 15, 0},
-    {"17, then 18", 7, 10, 4, 0, 3, SLOTS({0, 4, 7}, {3, 8, 7}, {8, 10, 7, 1}), 17, 1},
-    {"18 twice", 7, 10, 4, 0, 3, SLOTS({0, 4, 7}, {4, 8, 7, 1}, {8, 10, 7, 1}), 18, 1},
+    {"15, then 18", 7, 10, 4, 0, 2, SLOTS({4, 4, 7}, {4, 8, 7, 5}), 15, 0},
+    {"17, then 18", 7, 10, 4, 0, 3, SLOTS({0, 4, 7}, {3, 8, 7}, {8, 10, 7, 3}), 17, 1},
+    {"18 twice", 7, 10, 4, 0, 3, SLOTS({0, 4, 7}, {4, 8, 7, 5}, {8, 10, 7, 3}), 18, 1},
     {"three owners are good", 7, 10, 4, 0, 3, SLOTS({0, 4, 7}, {4, 8, 8}, {8, 10, 9}), 0, 0},
     {"another owner's board is good", 7, 10, 4, 0, 2, SLOTS({0, 4, 8}, {4, 8, 9}), 0, 0},
     {"15 in another owner's slot", 7, 10, 4, 0, 3, SLOTS({0, 4, 7}, {4, 4, 9}, {4, 8, 7}), 15, 1},
     {"16 in another owner's slot", 7, 10, 4, 0, 2, SLOTS({0, 4, 7}, {4, 11, 9}), 16, 1},
     {"17 in another owner's slot", 7, 10, 4, 0, 3, SLOTS({0, 4, 7}, {3, 6, 9}, {6, 8, 7}), 17, 1},
-    {"18 in another owner's slot", 7, 10, 4, 0, 3, SLOTS({0, 4, 7}, {4, 6, 9, 1}, {6, 8, 7}), 18, 1},
+    {"18 in another owner's slot", 7, 10, 4, 0, 3, SLOTS({0, 4, 7}, {4, 6, 9, 3}, {6, 8, 7}), 18, 1},
     {"15 in another owner's slot, then 16", 7, 10, 4, 0, 3, SLOTS({0, 4, 7}, {4, 4, 9}, {4, 11, 7}), 15, 1},
     {"16, then 15 in another owner's slot", 7, 10, 4, 0, 2, SLOTS({0, 11, 7}, {12, 12, 9}), 16, 0},
     {"a board without own slots is bad all the same", 7, 10, 4, 0, 2, SLOTS({0, 4, 8}, {4, 4, 9}), 15, 1},
@@ -489,7 +634,7 @@ static const struct hand_table tables[] = {
     {"19 before 4", 65543, 0, 4, 0, 1, SLOTS({0, 8, 7}), 19, 0},
     {"19 before 14", 65543, 513, 4, 0, 513, ticks, 513, 19, 0},
     {"19 before 15", 65543, 10, 4, 0, 2, SLOTS({0, 4, 7}, {8, 8, 7}), 19, 0},
-    {"19 before 18", 65543, 10, 4, 0, 2, SLOTS({0, 4, 7}, {4, 8, 7, 1}), 19, 0},
+    {"19 before 18", 65543, 10, 4, 0, 2, SLOTS({0, 4, 7}, {4, 8, 7, 5}), 19, 0},
 };
 
 /* Each is judged, and asked about at its offset. Offset 20 is refused by T itself: it shows what comes before 11. */
@@ -502,18 +647,21 @@ static const struct hand_refusal refusals[] = {
     {"513 slots are refusal 14 before 15", {7, 513, 0, 5, 14, 1, 2, 0, 513}, nothing, 513, 9, 14},
     {"(11,11) is refusal 15 before 16", T(4, 1), SLOTS({11, 11, 7}), 9, 15},
     {"(3,11) is refusal 16 before 17", T_OF(7, 0, 2), SLOTS({0, 4, 7}, {3, 11, 7}), 9, 16},
-    {"(3,8) with a spare byte is refusal 17 before 18", T_OF(7, 0, 2), SLOTS({0, 4, 7}, {3, 8, 7, 1}), 9, 17},
-    {"a spare byte is refusal 18 before a later slot's 15", T_OF(7, 0, 2), SLOTS({0, 4, 7, 1}, {8, 8, 7}), 9, 18},
+    {"(3,8) with a loss of 6 is refusal 17 before 18", T_OF(7, 0, 2), SLOTS({0, 4, 7}, {3, 8, 7, 6}), 9, 17},
+    {"a loss of 5 in (0,4) is refusal 18 before a later slot's 15", T_OF(7, 0, 2), SLOTS({0, 4, 7, 5}, {8, 8, 7}), 9,
+     18},
     {"(8,8) is refusal 15", T(0, 1), SLOTS({8, 8, 7}), 9, 15},
     {"(0,11) is refusal 16", T(0, 1), SLOTS({0, 11, 7}), 20, 16},
     {"(0,4), (3,8) is refusal 17", {7, 10, 0, 5, 14, 1, 2, 0, 2}, SLOTS({0, 4, 7}, {3, 8, 7}), 9, 17},
     {"another owner's (3,8) is refusal 17", T_OF(7, 0, 2), SLOTS({0, 4, 7}, {3, 8, 9}), 9, 17},
-    {"a spare byte is refusal 18 at a half tick", T(0, 1), SLOTS({0, 8, 7, 1}), 20, 18},
-    {"another owner's spare byte is refusal 18", T_OF(7, 0, 2), SLOTS({0, 8, 7}, {8, 10, 9, 256}), 9, 18},
+    {"a loss of 9 in (0,8) is refusal 18 at a half tick", T(0, 1), SLOTS({0, 8, 7, 9}), 20, 18},
+    {"a loss of 5 in (4,8), which touches, is refusal 18", T_OF(7, 0, 2), SLOTS({0, 4, 7}, {4, 8, 7, 5}), 9, 18},
+    {"a loss of 11 in (0,10) is refusal 18", T(4, 1), SLOTS({0, 10, 7, 11}), 9, 18},
+    {"another owner's loss of 256 is refusal 18", T_OF(7, 0, 2), SLOTS({0, 8, 7}, {8, 10, 9, 256}), 9, 18},
     {"one slot record too few is refusal 3 before 19", T_OF(65543, 0, 2), SLOTS({0, 8, 7}), 9, 3},
     {"id 65,536 is refusal 19 at a half tick", T_OF(65536, 0, 1), SLOTS({0, 8, 0}), 9, 19},
     {"id 65,543 is refusal 19 at a half tick", {65543, 0, 0, 5, 14, 1, 2, 0, 1}, SLOTS({0, 8, 7}), 20, 19},
-    {"id 2^32 - 1 is refusal 19 before 18", T_OF(UINT32_MAX, 0, 1), SLOTS({0, 8, 65535, 1}), 9, 19},
+    {"id 2^32 - 1 is refusal 19 before 18", T_OF(UINT32_MAX, 0, 1), SLOTS({0, 8, 65535, 9}), 9, 19},
     {"e 0 is refusal 6", {7, 10, 0, 5, 0, 1, 2, 0, 1}, SLOTS({0, 8, 7}), 9, 6},
     {"e 1,000,001 is refusal 6", T(1000001, 1), SLOTS({0, 8, 7}), 20, 6},
     {"h 0 is refusal 7", {7, 10, 4, 5, 0, 1, 2, 0, 1}, SLOTS({0, 8, 7}), 9, 7},
@@ -591,18 +739,25 @@ static const struct hand_pair pairs[] = {
      SLOTS({4, 8, 7}, {0, 4, 7}, {4, 8, 7}, {8, 10, 9}), 0, 3, SLOTS({0, 4, 7}, {4, 8, 7}, {9, 10, 9}),
      ANSWER(7, 0, 2, 9, 255), 9, 2, 7, -1},
     {"another's slot amid T's, and none", T_OF(7, 0, 3), SLOTS({0, 4, 7}, {4, 6, 9}, {6, 8, 7}), 3, 2,
-     SLOTS({0, 1, 9}, {2, 3, 9}, {0, 4, 7, 1}, {0, 4, 7}, {6, 8, 7}), ANSWER(7, 0, 2, 1, 254), 9, 2, 4, -4},
+     SLOTS({0, 1, 9}, {2, 3, 9}, {0, 4, 7, 5}, {0, 4, 7}, {6, 8, 7}), ANSWER(7, 0, 2, 1, 254), 9, 2, 4, -4},
     {"P10 where another has all ticks, and on no slots", {7, 10, 1, 5, 5, 1, 3, 0, 1}, SLOTS({0, 10, 9}), 0, 0, BARE,
      ANSWER(7, 0, 3, 0, 255), 3, 3, 0, -2},
     {"each other one of 512 slots, and of 511", {7, 512, 1, 1, 2, 0, 2, 0, 512}, by_turns, 512, 0, 511, by_turns, 511,
      ANSWER(7, 1, 2, 1, 255), 2, 2, 0, -2},
+    {"P7 with its first tick lost, behind another's slot and alone", T_3(0, 2), SLOTS({0, 8, 7, 1}, {8, 10, 9, 2}),
+     0, 1, SLOTS({0, 8, 7, 1}), ANSWER(7, 1, 1, 3, 255), 12, 1, 4, -2},
+    {"round the end, with a loss of another's between and without", T_OF(7, 0, 3),
+     SLOTS({0, 4, 7, 4}, {4, 6, 9, 2}, {6, 10, 7}), 0, 3, SLOTS({0, 4, 7, 4}, {4, 6, 9}, {6, 10, 7}),
+     ANSWER(7, 0, 2, 1, 255), 0, 1, 8, 0},
+    {"behind a record of T's before the part, and behind another's in it", T_3(1, 1), SLOTS({0, 2, 7}, {2, 10, 7, 1}),
+     0, 2, SLOTS({0, 2, 9}, {2, 10, 7, 1}), ANSWER(7, 1, 1, 0, 255), 3, 0, 7, 1},
     {"e 0 alone, and beside another", T(0, 1), T_SLOT, 1, 2, SLOTS({8, 8, 7}, {0, 8, 7}, {8, 10, 9}), REFUSED(7, 6)},
 };
 
 size_t hand_count(void)
 {
-    return LENGTH(tasks) + LENGTH(replies) + LENGTH(points) + LENGTH(rounds) + 2 * LENGTH(refusals) + LENGTH(beyond) +
-           LENGTH(grants) + LENGTH(sites) + LENGTH(tables) + LENGTH(lengths);
+    return LENGTH(tasks) + LENGTH(replies) + LENGTH(points) + LENGTH(late_points) + LENGTH(rounds) +
+           2 * LENGTH(refusals) + LENGTH(beyond) + LENGTH(grants) + LENGTH(sites) + LENGTH(tables) + LENGTH(lengths);
 }
 
 static void put_slot(uint8_t *bytes, const uint32_t slot[SLOT_FIELDS])
@@ -610,7 +765,7 @@ static void put_slot(uint8_t *bytes, const uint32_t slot[SLOT_FIELDS])
     put_number(bytes, slot[SLOT_START], 4);
     put_number(bytes + 4, slot[SLOT_END], 4);
     put_number(bytes + OWNER_AT, slot[SLOT_OWNER], 2);
-    put_number(bytes + SPARE_AT, slot[SLOT_SPARE], 2);
+    put_number(bytes + LOSS_AT, slot[SLOT_LOSS], 2);
 }
 
 static void put_slots(struct input *input, const uint32_t (*slots)[SLOT_FIELDS], size_t records)
@@ -697,6 +852,15 @@ static const char *point_case(const struct hand_point *hand, struct input *input
     return hand->name;
 }
 
+static const char *late_case(const struct hand_late *hand, struct input *input, struct expected *said)
+{
+    put_task(input, &hand->task, hand->slots, hand->records);
+    input->kind = COUNT;
+    input->offset = hand->offset;
+    say_point(said, hand->count, hand->supply, hand->margin);
+    return hand->name;
+}
+
 static const char *round_case(const struct hand_round *hand, struct input *input, struct expected *said)
 {
     const struct task task = {7, 3, 1, 1, hand->h, 0, hand->k, 0, 1};
@@ -734,10 +898,11 @@ static const char *beyond_case(const struct hand_beyond *hand, struct input *inp
 static const char *grant_case(const struct hand_grant *hand, struct input *input, struct expected *said)
 {
     input->kind = GRANT;
-    input->marks_len = LENGTH(hand->marks);
+    input->marks_len = hand->n;
     memcpy(input->marks, hand->marks, LENGTH(hand->marks));
     memcpy(said->marks, hand->after, LENGTH(hand->after));
     input->v = hand->v;
+    input->loss = hand->loss;
     input->strips = (struct strips){hand->e, 5, 14, hand->m, 2};
     said->result = hand->result;
     return hand->name;
@@ -805,6 +970,9 @@ const char *hand_case(size_t i, struct input *input, struct expected *said)
     if (i < LENGTH(points))
         return point_case(&points[i], input, said);
     i -= LENGTH(points);
+    if (i < LENGTH(late_points))
+        return late_case(&late_points[i], input, said);
+    i -= LENGTH(late_points);
     if (i < LENGTH(rounds))
         return round_case(&rounds[i], input, said);
     i -= LENGTH(rounds);

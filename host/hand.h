@@ -1,7 +1,7 @@
 /*
  * The cases by hand of docs/RULES.md, with the outcome that it prints; margins; strips that go round a small wheel;
- * verdicts that hang by a strip; boards of several owners; slot tables with their first bad slot; pairs of boards; and
- * the bits of signed numbers. What is judged is asked for the verdict alone as well.
+ * verdicts that hang by a strip; boards of several owners; slots that start late; slot tables with their first bad
+ * slot; pairs of boards; and the bits of signed numbers. What is judged is asked for the verdict alone as well.
  */
 #ifndef HAND_H
 #define HAND_H

@@ -59,15 +59,82 @@ uint32_t owned_slots(const struct task *task, const uint8_t *slots)
     return owned;
 }
 
-void wheel_of_board(struct wheel *wheel, const struct task *task, const uint8_t *slots)
+struct slot {
+    uint32_t start, end, owner, loss;
+};
+
+static struct slot slot_at(const uint8_t *slots, size_t record)
 {
-    wheel->w = task->w;
-    memset(wheel->usable, 0, task->w);
-    for (uint32_t i = 0; i < task->count; i++) {
-        const uint8_t *slot = slots + (size_t)(task->first + i) * SLOT_BYTES;
-        const uint32_t start = get_number(slot, 4), end = get_number(slot + 4, 4);
-        memset(wheel->usable + start, 1, end - start);
+    const uint8_t *bytes = slots + record * SLOT_BYTES;
+    return (struct slot){get_number(bytes, 4), get_number(bytes + 4, 4), get_number(bytes + OWNER_AT, 2),
+                         get_number(bytes + LOSS_AT, 2)};
+}
+
+static void put_record(uint8_t *record, const struct slot *slot)
+{
+    put_number(record, slot->start, 4);
+    put_number(record + 4, slot->end, 4);
+    put_number(record + OWNER_AT, slot->owner, 2);
+    put_number(record + LOSS_AT, slot->loss, 2);
+}
+
+/* Ticks at which a slot ends that the mistake takes for one of the task's, on its part or right beside it. */
+static void mark_ends(bool *ends, enum mistake mistake, const struct task *task, const uint8_t *slots,
+                      size_t slots_len)
+{
+    const size_t first = task->first, behind = first + task->count, records = slots_len / SLOT_BYTES;
+    memset(ends, false, task->w);
+    for (size_t i = first - (first > 0); i < behind + (behind < records); i++) {
+        const struct slot slot = slot_at(slots, i);
+        const bool inside = i >= first && i < behind;
+        if (inside ? mistake == OTHERS_TOUCH : mistake == OUTSIDERS_TOUCH && slot.owner == task->id)
+            ends[slot.end % task->w] = true;
     }
+}
+
+/* A slot of the task's wheel as the mistake has it. One that loses all the same is one that starts later. */
+static struct slot mistaken(struct slot slot, enum mistake mistake, const bool *ends, const struct wheel *wheel)
+{
+    const uint32_t w = wheel->w, before = (slot.start + w - 1) % w;
+    const bool round = slot.start == 0, fills = round && slot.end == w;
+    const bool loses = mistake == TOUCHING_LOSES || (mistake == ROUND_LOSES && round && !fills) ||
+                       (mistake == FILLING_LOSES && fills) ||
+                       (mistake == LOST_BEFORE_LOSES && wheel->usable[before] == 0);
+    const bool keeps = mistake == NOTHING_LOST || ends[slot.start];
+    if (loses)
+        slot.start += slot.loss;
+    if (loses || keeps)
+        slot.loss = 0;
+    if (mistake == LOW_BYTE_LOST)
+        slot.loss %= 256;
+    if (mistake == HIGH_BYTE_LOST)
+        slot.loss -= slot.loss % 256;
+    return slot;
+}
+
+void wheel_with(struct wheel *wheel, enum mistake mistake, const struct task *task, const uint8_t *slots,
+                size_t slots_len)
+{
+    uint8_t board[SLOTS_MAX * SLOT_BYTES];
+    bool ends[WHEEL_MAX];
+    struct task there = *task;
+    there.first = 0;
+    mark_ends(ends, mistake, task, slots, slots_len);
+    wheel_of_task(wheel, task, slots);
+    for (uint32_t i = 0; i < task->count; i++) {
+        struct slot slot = mistaken(slot_at(slots, task->first + i), mistake, ends, wheel);
+        slot.owner = mistake == ALL_OWN ? task->id : slot.owner;
+        put_record(board + i * SLOT_BYTES, &slot);
+    }
+    wheel_of_task(wheel, &there, board);
+}
+
+uint64_t supply_with(enum mistake mistake, const struct task *task, const uint8_t *slots, size_t slots_len,
+                     uint64_t offset)
+{
+    struct wheel wheel;
+    wheel_with(&wheel, mistake, task, slots, slots_len);
+    return supply_at(&wheel, task->D, 2, offset);
 }
 
 /* ---- numbers ---- */
@@ -284,10 +351,6 @@ static uint32_t some_bad_id(struct rng *rng, uint32_t id, uint64_t way)
 
 /* ---- slot tables ---- */
 
-struct slot {
-    uint32_t start, end, owner, spare;
-};
-
 struct table {
     uint32_t n, room; /* room is now and then one slot too many */
     uint32_t owner;   /* of the slots that are put next */
@@ -347,9 +410,26 @@ static void strewn(struct rng *rng, struct table *table, uint64_t w, uint64_t n)
         put_between(rng, table, w * i / n, w * (i + 1) / n);
 }
 
+/* Stretches of up to three slots that touch, with gaps between; one of them may go on round the end of the wheel. */
+static void joined(struct rng *rng, struct table *table, uint64_t w)
+{
+    const uint64_t longest = 1 + below(rng, (w + 1) / 2), widest = 1 + below(rng, (w + 1) / 2);
+    uint64_t at = one_in(rng, 2) ? 0 : below(rng, w);
+    while (at < w) {
+        for (uint64_t slots = 1 + below(rng, 3); slots > 0 && at < w; slots--) {
+            const uint64_t start = at;
+            at = at_most(start + 1 + below(rng, longest), w);
+            put_slot(table, start, at);
+        }
+        at += 1 + below(rng, widest);
+    }
+    if (one_in(rng, 2))
+        table->slot[table->n - 1].end = (uint32_t)w;
+}
+
 static void some_table(struct rng *rng, struct table *table, uint64_t w)
 {
-    switch (below(rng, 8)) {
+    switch (below(rng, 10)) {
     case 0:
         if (one_in(rng, 2))
             full(table, w, at_most(1 + below(rng, 5), w));
@@ -361,8 +441,57 @@ static void some_table(struct rng *rng, struct table *table, uint64_t w)
     case 3:
         even(rng, table, w, 1 + below(rng, 5));
         break;
+    case 4:
+    case 5:
+        joined(rng, table, w);
+        break;
     default:
         scattered(rng, table, w);
+    }
+}
+
+static uint32_t length_of(const struct slot *slot)
+{
+    return slot->end > slot->start ? slot->end - slot->start : 0;
+}
+
+/* A loss that a slot may have, often at an end of what it may be, or with nothing in its lower byte. */
+static uint32_t some_loss(struct rng *rng, const struct slot *slot)
+{
+    const uint64_t most = at_most(length_of(slot), LOSS_MAX);
+    const uint64_t losses[] = {at_most(1, most), most - at_most(1, most), most, most, most - most % 256,
+                               below(rng, most + 1)};
+    return (uint32_t)pick(rng, losses, LENGTH(losses));
+}
+
+/*
+ * Half of the boards lose nothing. On the others all slots or some lose a few ticks, the same for each as far as it
+ * goes, or about 256 where it is as long; or each slot loses its own.
+ */
+static void some_losses(struct rng *rng, struct table *table)
+{
+    const uint64_t few = 1 + below(rng, 3), many = one_in(rng, 4) ? 254 + few : few;
+    const uint64_t in_four = one_in(rng, 2) ? 4 : 1 + below(rng, 3);
+    const bool same = one_in(rng, 2);
+    if (one_in(rng, 2))
+        return;
+    for (uint32_t i = 0; i < table->n; i++) {
+        struct slot *slot = &table->slot[i];
+        const uint64_t length = length_of(slot), loss = length >= many ? many : at_most(few, length);
+        if (below(rng, 4) < in_four)
+            slot->loss = same ? (uint32_t)loss : some_loss(rng, slot);
+    }
+}
+
+/* Losses that leave the task the same ticks: slots start earlier in the gaps between them, and none touches by it. */
+static void start_earlier(struct rng *rng, struct table *table)
+{
+    uint32_t at = 0;
+    for (uint32_t i = 0; i < table->n; i++) {
+        struct slot *slot = &table->slot[i];
+        slot->loss = slot->start > at ? (uint32_t)below(rng, slot->start - at) : 0;
+        slot->start -= slot->loss;
+        at = slot->end;
     }
 }
 
@@ -384,6 +513,15 @@ static void fill_gap(struct rng *rng, struct table *table, uint32_t id, uint64_t
     }
 }
 
+/* What others lose is nothing to the task. */
+static void lose_others(struct rng *rng, struct table *table, uint32_t id)
+{
+    const bool some = one_in(rng, 2);
+    for (uint32_t i = 0; i < table->n; i++)
+        if (some && table->slot[i].owner != id && one_in(rng, 2))
+            table->slot[i].loss = some_loss(rng, &table->slot[i]);
+}
+
 /* Others get slots between the task's, before the first and behind the last, as far as the table has room. */
 static void share(struct rng *rng, struct table *table, uint64_t w, uint32_t id)
 {
@@ -399,6 +537,7 @@ static void share(struct rng *rng, struct table *table, uint64_t w, uint32_t id)
             at = own.slot[i].end;
         }
     }
+    lose_others(rng, table, id);
 }
 
 /* Gives the slots of a whole board to the task and to others; now and then all to the task, or all to others. */
@@ -421,13 +560,14 @@ static void some_owners(struct rng *rng, struct table *table, uint64_t w, uint32
 }
 
 /* What can be wrong with a slot, refusals 15 to 18, as a set. No slot behind a good one has the first three. */
-enum { EMPTY = 1, PAST = 2, EARLY = 4, SPARE = 8, ALL_TROUBLES = EMPTY | PAST | EARLY | SPARE };
+enum { EMPTY = 1, PAST = 2, EARLY = 4, LOSSY = 8, ALL_TROUBLES = EMPTY | PAST | EARLY | LOSSY };
 
-static void use_spare(struct rng *rng, struct slot *slot)
+/* A loss above the slot's length: by one, by so much that its lower byte alone would do or is zero, or the largest. */
+static void lose_too_much(struct rng *rng, struct slot *slot)
 {
-    const uint32_t bit = 1u << below(rng, 8);
-    const uint64_t spares[] = {bit, bit << 8, bit << 8 | bit};
-    slot->spare = (uint32_t)pick(rng, spares, LENGTH(spares));
+    const uint64_t length = length_of(slot), whole = (length / 256 + 1) * 256;
+    const uint64_t losses[] = {length + 1, length + 1, whole, whole + below(rng, at_most(length, 255) + 1), LOSS_MAX};
+    slot->loss = (uint32_t)at_most(pick(rng, losses, LENGTH(losses)), LOSS_MAX);
 }
 
 /* Spoils a slot, often by one tick. The first one can't be early: nothing is before it. */
@@ -444,15 +584,16 @@ static void spoil(struct rng *rng, struct table *table, uint64_t place, unsigned
         slot->end = slot->start - (slot->start > 0 && one_in(rng, 2));
     else if (troubles & EMPTY)
         slot->start = (uint32_t)at_most(pick(rng, starts, LENGTH(starts)), UINT32_MAX);
-    if (troubles & SPARE)
-        use_spare(rng, slot);
+    if (troubles & LOSSY)
+        lose_too_much(rng, slot);
 }
 
 /* Spoils some slot, in one way or several, or only makes it longer, which may be fine. */
 static void spoil_slot(struct rng *rng, struct table *table, uint32_t w)
 {
+    const uint64_t kinds[] = {EMPTY, PAST, EARLY, LOSSY, LOSSY};
     uint64_t place = below(rng, table->n);
-    unsigned troubles = 1u << below(rng, 4);
+    unsigned troubles = (unsigned)pick(rng, kinds, LENGTH(kinds));
     if (one_in(rng, 3))
         troubles |= (unsigned)below(rng, ALL_TROUBLES + 1);
     if (one_in(rng, 7))
@@ -513,15 +654,20 @@ static uint64_t some_wheel(struct rng *rng, uint64_t work)
     return 1 + below(rng, one_in(rng, 6) ? 200 : 24);
 }
 
+static void put_table(uint8_t *board, const struct table *table)
+{
+    for (uint32_t i = 0; i < table->n; i++)
+        put_record(board + i * SLOT_BYTES, &table->slot[i]);
+}
+
 static void wheel_of_draft(struct wheel *wheel, const struct draft *draft)
 {
-    wheel->w = draft->task.w;
-    memset(wheel->usable, 0, wheel->w);
-    for (uint32_t i = 0; i < draft->table.n; i++) {
-        const struct slot *slot = &draft->table.slot[i];
-        if (slot->owner == draft->task.id)
-            memset(wheel->usable + slot->start, 1, slot->end - slot->start);
-    }
+    uint8_t board[LENGTH(draft->table.slot) * SLOT_BYTES];
+    struct task task = draft->task;
+    task.first = 0;
+    task.count = draft->table.n;
+    put_table(board, &draft->table);
+    wheel_of_task(wheel, &task, board);
 }
 
 /* The wheel, and the task's own slots alone. */
@@ -554,6 +700,7 @@ static void draft_strips(struct rng *rng, struct draft *draft, enum kind kind, u
 static void draft_task(struct rng *rng, struct draft *draft, enum kind kind, uint64_t work)
 {
     draft_own(rng, draft, SLOTS_MAX + one_in(rng, 20), work);
+    some_losses(rng, &draft->table);
     some_owners(rng, &draft->table, draft->task.w, draft->task.id);
     draft_strips(rng, draft, kind, work);
 }
@@ -578,6 +725,7 @@ static void draft_crowd(struct rng *rng, struct draft *draft, enum kind kind)
     else
         strewn(rng, &draft->table, draft->task.w, n);
     hand_out(rng, &draft->table, draft->task.id);
+    some_losses(rng, &draft->table);
     draft_strips(rng, draft, kind, small_work);
 }
 
@@ -592,6 +740,7 @@ static uint64_t some_tick(struct rng *rng, uint64_t w)
  * A wheel that is full but for two ticks, which others may have, and a period
  * that carries a strip from one to the other, or just beside: two drops meet at
  * one or two half ticks only, so a single wrong place of a large wheel shows.
+ * Half of the time ticks behind the two are lost as well.
  */
 static void draft_holes(struct rng *rng, struct draft *draft, uint64_t w)
 {
@@ -602,6 +751,7 @@ static void draft_holes(struct rng *rng, struct draft *draft, uint64_t w)
     put_slot(&draft->table, 0, low);
     put_slot(&draft->table, low + 1, high);
     put_slot(&draft->table, high + 1, w);
+    some_losses(rng, &draft->table);
     share(rng, &draft->table, w, draft->task.id);
     s->h = (to + 2 * w - from - 1 + beside) % w;
     s->h += w * (3 + below(rng, 3)); /* at least any D below */
@@ -622,6 +772,8 @@ static void draft_gaps(struct rng *rng, struct draft *draft, uint64_t w, uint64_
     open_draft(rng, draft, SLOTS_MAX);
     for (uint64_t i = 0; i < slots; i++)
         put_slot(&draft->table, w * i / slots, w * i / slots + length);
+    if (one_in(rng, 2))
+        start_earlier(rng, &draft->table);
     share(rng, &draft->table, w, draft->task.id);
     s->D = s->e = 1 + below(rng, 3);
     s->h = s->D + below(rng, 3 * w);
@@ -637,6 +789,7 @@ static void draft_turns(struct rng *rng, struct draft *draft)
     uint64_t w = 1 + below(rng, 3), two_bytes = 65536;
     open_draft(rng, draft, SLOTS_MAX);
     put_slot(&draft->table, 0, 1 + below(rng, w));
+    some_losses(rng, &draft->table);
     share(rng, &draft->table, w, draft->task.id);
     s->D = 3 * two_bytes + below(rng, two_bytes);
     s->h = s->D + below(rng, w + 1);
@@ -688,31 +841,30 @@ static void damage_draft(struct rng *rng, struct draft *draft)
     }
 }
 
-static void put_record(uint8_t *record, const struct slot *slot)
+/* A record beside a board. Half of them lose nothing, and some would lose too much. */
+static void put_beside(struct rng *rng, uint8_t *record, struct slot slot)
 {
-    put_number(record, slot->start, 4);
-    put_number(record + 4, slot->end, 4);
-    put_number(record + OWNER_AT, slot->owner, 2);
-    put_number(record + SPARE_AT, slot->spare, 2);
+    if (one_in(rng, 4))
+        lose_too_much(rng, &slot);
+    else if (one_in(rng, 3))
+        slot.loss = some_loss(rng, &slot);
+    put_record(record, &slot);
 }
 
 /*
- * The board. The records beside it, if there are any, are other boards'; half of them have the task's id as owner, and
- * would fit.
+ * The board. The records beside it, if there are any, are other boards'; half of them have the task's id as owner and
+ * touch its first slot or its last, and most of these would fit.
  */
 static void put_board(struct rng *rng, uint8_t *board, const struct draft *draft, bool before, bool behind)
 {
     const struct table *table = &draft->table;
     const uint32_t w = draft->task.w, start = table->n > 0 ? table->slot[0].start : 0;
     const uint32_t end = table->n > 0 ? table->slot[table->n - 1].end : w;
-    const struct slot ahead = {0, start > 0 ? start : w, draft->task.id, 0};
-    const struct slot after = {end < w ? end : 0, w, draft->task.id, 0};
-    for (uint32_t i = 0; i < table->n; i++)
-        put_record(board + i * SLOT_BYTES, &table->slot[i]);
+    put_table(board, table);
     if (before && one_in(rng, 2))
-        put_record(board - SLOT_BYTES, &ahead);
+        put_beside(rng, board - SLOT_BYTES, (struct slot){0, start > 0 ? start : w, draft->task.id, 0});
     if (behind && one_in(rng, 2))
-        put_record(board + table->n * SLOT_BYTES, &after);
+        put_beside(rng, board + table->n * SLOT_BYTES, (struct slot){end < w ? end : 0, w, draft->task.id, 0});
 }
 
 /* Lays out the slot buffer: strangers before `first`, the board, strangers after. */
@@ -817,16 +969,22 @@ static uint64_t some_offset(struct rng *rng, uint64_t w)
     return w == 0 || one_in(rng, 6) ? pick(rng, edges, LENGTH(edges)) : below(rng, 2 * w);
 }
 
+/* One among the ticks that a slot may lose, or just behind them. */
+static uint64_t offset_in(struct rng *rng, const struct slot *slot)
+{
+    return 2 * (uint64_t)slot->start + below(rng, 2 * (uint64_t)slot->loss + 2);
+}
+
 static size_t some_reply_length(struct rng *rng)
 {
     const uint64_t lengths[] = {0, 1, MARGIN_AT, ANSWER_BYTES - 1, ANSWER_BYTES + 1, ANSWER_BYTES + 1, REPLY_ROOM};
     return one_in(rng, 5) ? pick(rng, lengths, LENGTH(lengths)) : ANSWER_BYTES;
 }
 
-/* Gives the work that the draft is cut for. */
+/* Gives the work that the draft is cut for. A count on a long wheel takes little of it. */
 static uint64_t draft_any(struct rng *rng, struct draft *draft, enum kind kind, uint64_t work)
 {
-    if (work == small_work && one_in(rng, 60)) {
+    if (work == small_work && one_in(rng, kind == COUNT ? 20 : 60)) {
         draft_holes(rng, draft, one_in(rng, 2) ? WHEEL_MAX : 1 + at_most(large_wheel(rng), WHEEL_MAX - 1));
         return medium_work;
     }
@@ -865,6 +1023,8 @@ static void make_task_input(struct rng *rng, struct input *input, uint64_t work)
     if (refusal_of_sizes(input->task_len, input->slots_len) == 0)
         keep_cheap(input, input->task, work);
     input->offset = some_offset(rng, task_of_bytes(input->task).w);
+    if (draft.table.n > 0 && one_in(rng, 4))
+        input->offset = offset_in(rng, &draft.table.slot[below(rng, draft.table.n)]);
     input->reply_len = some_reply_length(rng);
     scribble(rng, input->reply, REPLY_ROOM);
 }
@@ -935,7 +1095,14 @@ static void make_edge_task(struct rng *rng, struct input *input, uint32_t w, enu
     lay_task(rng, input, &draft);
 }
 
-/* All slots are free and no strip needs more than a full wheel has. */
+/* Half of the grants lose nothing. */
+static uint64_t some_grant_loss(struct rng *rng, uint64_t v)
+{
+    const uint64_t losses[] = {0, 0, 0, 0, 1, v - 1, v, below(rng, v + 1)};
+    return pick(rng, losses, LENGTH(losses));
+}
+
+/* All slots are free and no strip needs more than a full wheel has; slots that fill it lose nothing. */
 static void make_edge_grant(struct rng *rng, struct input *input, uint64_t w)
 {
     struct strips *s = &input->strips;
@@ -945,6 +1112,7 @@ static void make_edge_grant(struct rng *rng, struct input *input, uint64_t w)
     input->kind = GRANT;
     input->marks_len = n;
     input->v = w / n;
+    input->loss = some_grant_loss(rng, input->v);
     memset(input->marks, 1, MARKS_ROOM);
     s->D = 1 + below(rng, 6);
     s->e = 1 + below(rng, s->D);
@@ -1024,6 +1192,8 @@ static void draft_unequal_gaps(struct rng *rng, struct draft *draft)
             start = tick + 1;
         }
     put_slot(&draft->table, start, w);
+    if (one_in(rng, 2))
+        start_earlier(rng, &draft->table);
     share(rng, &draft->table, w, draft->task.id);
     s->D = s->e = 1;
     s->h = w + (one_in(rng, 2) ? there : w - there);
@@ -1103,7 +1273,7 @@ static void wheel_of_some(struct rng *rng, struct wheel *wheel, const struct inp
     uint8_t taken[GRANT_SLOTS_MAX] = {0};
     size_t n = 1 + below(rng, input->marks_len);
     memcpy(taken, input->marks, one_in(rng, 4) ? input->marks_len : n);
-    wheel_of_grid(wheel, taken, input->marks_len, input->v);
+    wheel_of_grid(wheel, taken, input->marks_len, input->v, input->loss);
 }
 
 static void damage_grant(struct rng *rng, struct input *input)
@@ -1114,9 +1284,12 @@ static void damage_grant(struct rng *rng, struct input *input)
     const uint64_t slot_lengths[] = {0, WHEEL_MAX / n, WHEEL_MAX / n + 1, UINT64_MAX,
                                      two_to_32 + input->v, two_to_32 / n + 1, UINT64_MAX / n + 1,
                                      UINT64_MAX / 2 + 1};
+    /* All but the first two pass one that looks at 32 bits, or takes them for signed. */
+    const uint64_t losses[] = {input->v + 1, input->v + 1,       two_to_32, two_to_32 + below(rng, 3),
+                               UINT64_MAX,   UINT64_MAX / 2 + 1};
     enum field field = (enum field)below(rng, FIELDS);
     size_t place;
-    switch (below(rng, 6)) {
+    switch (below(rng, 7)) {
     case 0:
         input->marks_len = pick(rng, lengths, LENGTH(lengths));
         break;
@@ -1130,6 +1303,9 @@ static void damage_grant(struct rng *rng, struct input *input)
     case 3:
         *field_of(&input->strips, field) += two_to_32;
         break;
+    case 4:
+        input->loss = pick(rng, losses, LENGTH(losses));
+        break;
     default:
         stretch(rng, &input->strips, field, UINT64_MAX);
     }
@@ -1137,7 +1313,8 @@ static void damage_grant(struct rng *rng, struct input *input)
 
 static void keep_grant_cheap(struct input *input, uint64_t work)
 {
-    if (refusal_of_marks(input->marks, input->marks_len, input->v) == 0 && refusal_of_strips(&input->strips) == 0)
+    if (refusal_of_marks(input->marks, input->marks_len, input->v, input->loss) == 0 &&
+        refusal_of_strips(&input->strips) == 0)
         trim(&input->strips, input->marks_len * input->v, 1 + free_slots(input->marks, input->marks_len), work);
 }
 
@@ -1152,6 +1329,7 @@ static void make_grant_input(struct rng *rng, struct input *input, uint64_t work
     uint64_t v = one_in(rng, 40) ? WHEEL_MAX / n : 1 + below(rng, longest);
     input->marks_len = n;
     input->v = v;
+    input->loss = some_grant_loss(rng, v);
     some_marks(rng, input->marks, MARKS_ROOM);
     s->h = some_period(rng, n * v);
     s->D = some_deadline(rng, n * v, s->h);
@@ -1185,16 +1363,16 @@ static const struct {
     {PAST, FIRST_SLOT},          {PAST, MIDDLE_SLOT},          {PAST, LAST_SLOT},
     {EARLY, MIDDLE_SLOT},        {EARLY, LAST_SLOT},           {EMPTY | PAST, FIRST_SLOT},
     {EMPTY | PAST, MIDDLE_SLOT}, {EMPTY | EARLY, MIDDLE_SLOT}, {EMPTY | EARLY, LAST_SLOT},
-    {PAST | EARLY, MIDDLE_SLOT}, {PAST | EARLY, LAST_SLOT},    {SPARE, FIRST_SLOT},
-    {SPARE, MIDDLE_SLOT},        {SPARE, LAST_SLOT},           {EMPTY | SPARE, MIDDLE_SLOT},
-    {PAST | SPARE, FIRST_SLOT},  {EARLY | SPARE, MIDDLE_SLOT}, {EARLY | SPARE, LAST_SLOT},
+    {PAST | EARLY, MIDDLE_SLOT}, {PAST | EARLY, LAST_SLOT},    {LOSSY, FIRST_SLOT},
+    {LOSSY, MIDDLE_SLOT},        {LOSSY, LAST_SLOT},           {EMPTY | LOSSY, MIDDLE_SLOT},
+    {PAST | LOSSY, FIRST_SLOT},  {EARLY | LOSSY, MIDDLE_SLOT}, {EARLY | LOSSY, LAST_SLOT},
 };
 
 /* What a table is like that is asked about. There the shapes go round, so that a short run meets each. */
 enum table_shape {
     SPOILT_TWICE = LENGTH(spoilt), /* below it: one slot is spoilt, as listed above */
     SPOILT_OFTEN,
-    SPOILT_NEXT, /* a spare byte, and no tick in the slot behind it */
+    SPOILT_NEXT, /* a loss above the length, and no tick in the slot behind it */
     SLOTS_TOO_MANY,
     SLOTS_TOO_MANY_SPOILT,
     BAD_TABLES, /* what follows isn't done to the table itself */
@@ -1230,6 +1408,7 @@ static void draft_slots(struct rng *rng, struct draft *draft, uint64_t n)
     else
         even(rng, &draft->table, w, n);
     hand_out(rng, &draft->table, draft->task.id);
+    some_losses(rng, &draft->table);
     s->h = 1 + below(rng, 40);
     s->D = 1 + below(rng, s->h);
     s->e = 1 + below(rng, s->D + 1);
@@ -1266,7 +1445,7 @@ static void draft_shape(struct rng *rng, struct draft *draft, uint64_t shape)
         spoil(rng, table, place_of(rng, table->n, spoilt[shape].where), spoilt[shape].troubles, w);
     if (shape == SPOILT_NEXT && table->n > 1) {
         uint64_t place = below(rng, table->n - 1);
-        spoil(rng, table, place, SPARE, w);
+        spoil(rng, table, place, LOSSY, w);
         spoil(rng, table, place + 1, EMPTY, w);
     }
     if (shape == SLOTS_TOO_MANY_SPOILT)
@@ -1625,6 +1804,7 @@ static void draft_owner(struct rng *rng, struct draft *draft)
         uint64_t n = some_crowd(rng, draft);
         strewn(rng, &draft->table, draft->task.w, 1 + below(rng, n));
     }
+    some_losses(rng, &draft->table);
 }
 
 /* Strips that suit the task's slots; a third of them is moved to a bound or past it. */
@@ -1673,8 +1853,10 @@ void make_pair(struct input *one, struct input *other, struct rng *rng)
     const uint64_t way = below(rng, 4);
     twin = draft; /* way 0: no slots but the task's */
     share(rng, &draft.table, w, id);
-    if (way == 1)
+    if (way == 1) {
         twin = draft;
+        lose_others(rng, &twin.table, id);
+    }
     if (way > 1)
         share(rng, &twin.table, w, id);
     turn_others(&twin.table, id);

@@ -29,7 +29,7 @@ struct input {
     uint8_t marks[MARKS_ROOM];
     uint8_t *slots; /* SLOTS_ROOM bytes, the caller's */
     uint64_t offset; /* of a count, a supply and a margin; also where which slot is compared with them */
-    uint64_t v;
+    uint64_t v, loss;
     struct strips strips; /* a grant's e, d, h, m, k */
 };
 
@@ -64,8 +64,40 @@ enum edge_use site_edge_use_of(const struct task *task);
 /* The owner of a slot record, and how many slots of a board are its task's. */
 uint32_t owner_at(const uint8_t *slots, size_t record);
 uint32_t owned_slots(const struct task *task, const uint8_t *slots);
-/* The wheel as it would be if every slot of a good board were its task's: where that tells, the owners do. */
-void wheel_of_board(struct wheel *wheel, const struct task *task, const uint8_t *slots);
+
+/* What one may get wrong about a good board: whose the slots are, and which of them lose ticks to the switch. */
+enum mistake {
+    ALL_OWN,           /* every slot is the task's */
+    NOTHING_LOST,      /* no slot loses a tick */
+    TOUCHING_LOSES,    /* a slot loses whatever it touches */
+    ROUND_LOSES,       /* a slot at tick 0 that doesn't fill the wheel loses, also where one of its owner's ends at w */
+    FILLING_LOSES,     /* a slot that fills the wheel loses */
+    LOST_BEFORE_LOSES, /* a slot loses behind one of its owner's that gives no tick */
+    OTHERS_TOUCH,      /* a slot loses nothing behind another owner's */
+    OUTSIDERS_TOUCH,   /* a slot loses nothing behind one of its owner's that stands right beside the part */
+    LOW_BYTE_LOST,     /* a loss is its lower byte */
+    HIGH_BYTE_LOST,    /* a loss is what its upper byte stands for */
+    MISTAKES
+};
+
+/* The wheel of a task as one would have it who makes the mistake: where that tells, the rule does. */
+void wheel_with(struct wheel *wheel, enum mistake mistake, const struct task *task, const uint8_t *slots,
+                size_t slots_len);
+/* The supply there at a half tick, in half ticks. */
+uint64_t supply_with(enum mistake mistake, const struct task *task, const uint8_t *slots, size_t slots_len,
+                     uint64_t offset);
+
+/* A supply that would be another, for each mistake about losses in their order: classes of both tallies. */
+#define LOST_SUPPLIES(X)                                                                                               \
+    X(LOSS_SUPPLY, "supply: more if nothing were lost")                                                                \
+    X(TOUCH_SUPPLY, "supply: less if slots lost whatever they touch")                                                  \
+    X(ROUND_SUPPLY, "supply: less if a slot at 0 lost, though one of the task's ends at w")                            \
+    X(FILL_SUPPLY, "supply: less if a slot that fills the wheel lost")                                                 \
+    X(LOST_BEFORE_SUPPLY, "supply: less if a slot lost behind one of the task's that gives no tick")                   \
+    X(OTHERS_SUPPLY, "supply: more if a slot lost nothing behind another owner's")                                     \
+    X(OUTSIDE_SUPPLY, "supply: more if a slot lost nothing behind one outside the board")                              \
+    X(LOW_BYTE_SUPPLY, "supply: more by the lower bytes of the losses")                                                \
+    X(HIGH_BYTE_SUPPLY, "supply: more by the upper bytes of the losses")
 
 struct rng {
     uint64_t state;

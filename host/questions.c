@@ -74,14 +74,20 @@ static bool has_other(const struct task *task, const uint8_t *slots, uint32_t ma
     return false;
 }
 
+static void add_losses(struct question_tally *tally, const struct question *q, uint64_t supply)
+{
+    struct task task = task_of_bytes(q->a);
+    for (enum mistake mistake = NOTHING_LOST; mistake < MISTAKES; mistake++)
+        note(tally, (enum question_class)(LOSS_SUPPLY + mistake - NOTHING_LOST),
+             supply_with(mistake, &task, q->b, q->b_len, q->number) != supply);
+}
+
 static void add_owners(struct question_tally *tally, const struct question *q, const struct answers *answers)
 {
     struct task task = task_of_bytes(q->a);
     const uint32_t owned = owned_slots(&task, q->b);
     const bool some = answers->count > 0 && answers->count < task.k;
-    struct wheel wheel;
-    wheel_of_board(&wheel, &task, q->b);
-    note(tally, SHARED_SUPPLY, supply_at(&wheel, task.D, 2, q->number) > answers->supply);
+    note(tally, SHARED_SUPPLY, supply_with(ALL_OWN, &task, q->b, q->b_len, q->number) > answers->supply);
     note(tally, SHARED_COUNT, some && owned > 0 && owned < task.count);
     note(tally, OWNED_NONE, owned == 0 && task.count > 0);
     note(tally, OWNED_MANY, owned > GRANT_SLOTS_MAX);
@@ -150,6 +156,7 @@ void question_tally_add(struct question_tally *tally, const struct question *q, 
     if (number == 0) {
         add_point(tally, q, answers);
         add_owners(tally, q, answers);
+        add_losses(tally, q, answers->supply);
     }
     add_lookup(tally, q, answers);
 }

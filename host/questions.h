@@ -49,6 +49,7 @@ struct answers answers_of(const struct question *question);
     X(OWNED_MANY, "supply: more than 64 slots of the task's")                                                          \
     X(OTHER_HIGH, "supply: another owner that differs from the id in its upper byte alone")                            \
     X(OTHER_LOW, "supply: another owner that differs from the id in its lower byte alone")                             \
+    LOST_SUPPLIES(X)                                                                                                   \
     X(FOUND_SITE, "lookup: in the site file alone")                                                                    \
     X(FOUND_BOTH, "lookup: in both files")                                                                             \
     X(FOUND_FACTORY, "lookup: in the factory file alone")                                                              \

@@ -8,7 +8,7 @@ trap 'rm -rf "$folder"' EXIT
 tried=0 failed=0
 
 tasks_header='id,w,e,D,h,m,k,first,count'
-slots_header='start,end,owner'
+slots_header='start,end,owner,loss'
 
 fail() {
     failed=$((failed + 1))
@@ -19,7 +19,7 @@ fail() {
 fresh() {
     rm -rf "$folder"/*
     printf '%s\n1,55,27,70,70,3,10,0,2\n' "$tasks_header" >"$folder/tasks.csv"
-    printf '%s\n11,21,1\n33,43,1\n' "$slots_header" >"$folder/slots.csv"
+    printf '%s\n11,21,1,0\n33,43,1,10\n' "$slots_header" >"$folder/slots.csv"
 }
 
 # complains NAME TEXT [LEFT]: `make` must fail, say TEXT, and leave only the tables and LEFT.
@@ -49,11 +49,12 @@ tells() {
     written "$1"
 }
 
-# tables TASKS SLOTS: a fresh folder whose tables have these lines, with \n between them, behind their headers.
+# tables TASKS SLOTS: a fresh folder whose tables have these lines, with \n between them, behind their headers. A slot of
+# three numbers loses nothing.
 tables() {
     rm -rf "$folder"/*
     printf "$tasks_header\n%b\n" "$1" >"$folder/tasks.csv"
-    printf "$slots_header\n%b\n" "$2" >"$folder/slots.csv"
+    printf "$slots_header\n%b\n" "$2" | sed 's/^[0-9]*,[0-9]*,[0-9]*$/&,0/' >"$folder/slots.csv"
 }
 
 # slots N: N slots of a tick each, as lines of a table; every second one is task 7's.
@@ -71,7 +72,7 @@ fresh
     printf ' 1, 55,27,70,70,3,10,0,2 \n   \n#x\n'
     printf '4294967295,4294967295,0,4294967295,4294967295,1,2,65535,65535'
 } >"$folder/tasks.csv"
-printf ' 4294967295 ,4294967295,65535\n0,0,0\n' >>"$folder/slots.csv"
+printf ' 4294967295 ,4294967295,65535, 65535 \n0,0,0,0\n5,7,1,256\n' >>"$folder/slots.csv"
 "$records" make "$folder" 2>/dev/null || fail 'round trip: make'
 "$records" show "$folder" >"$folder/shown" || fail 'round trip: show'
 cat >"$folder/expected" <<END
@@ -81,10 +82,11 @@ $tasks_header
 4294967295,4294967295,0,4294967295,4294967295,1,2,65535,65535
 # slots.csv
 $slots_header
-11,21,1
-33,43,1
-4294967295,4294967295,65535
-0,0,0
+11,21,1,0
+33,43,1,10
+4294967295,4294967295,65535,65535
+0,0,0,0
+5,7,1,256
 END
 cmp -s "$folder/shown" "$folder/expected" || fail 'round trip: shown differently'
 
@@ -104,14 +106,14 @@ bytes() {
     [ "$found" = "$2" ] || fail "bytes of $1.bin: $found"
 }
 
-# The bytes themselves, once; the spare ones are zero.
+# The bytes themselves, once.
 tried=$((tried + 1))
 fresh
 printf '%s\n67305985,2,3,4,5,6,7,258,9\n' "$tasks_header" >"$folder/tasks.csv"
-printf '%s\n67305985,134678021,2569\n4294967295,4294967295,65535\n' "$slots_header" >"$folder/slots.csv"
+printf '%s\n67305985,134678021,2569,3083\n4294967295,0,65535,0\n0,4294967295,0,65535\n' "$slots_header" >"$folder/slots.csv"
 "$records" make "$folder" 2>/dev/null || fail 'bytes: make'
 bytes tasks 0102030402000000030000000400000005000000060000000700000002010900
-bytes slots 0102030405060708090a0000ffffffffffffffffffff0000
+bytes slots 0102030405060708090a0b0cffffffff00000000ffff000000000000ffffffff0000ffff
 
 # A byte-order mark before the first line, as spreadsheets write it, changes no byte of the records.
 tried=$((tried + 1))
@@ -144,13 +146,19 @@ bad_task 'a missing field' '1,55,27,70,70,3,10,0' 'field count: missing'
 bad_task 'an extra field' '1,55,27,70,70,3,10,0,2,8' 'field count: an extra field after it: "8"'
 bad_slot 'a slot with one number' '50' 'field end: missing'
 bad_slot 'a slot without owner' '50,51' 'field owner: missing'
-bad_slot 'a slot with four numbers' '50,51,1,0' 'field owner: an extra field after it: "0"'
-bad_slot 'a slot word' 'a,51,1' 'field start: not a number: "a"'
-bad_slot 'an end over 32 bits' '50,4294967296,1' 'field end: above 4294967295: "4294967296"'
-bad_slot 'an owner over 16 bits' '50,51,65536' 'field owner: above 65535: "65536"'
-bad_slot 'an owner far over 64 bits' '50,51,99999999999999999999999' 'field owner: above 65535'
-bad_slot "an owner's name" '50,51,chime' 'field owner: not a number: "chime"'
-bad_slot 'an empty owner' '50,51,' 'field owner: not a number: ""'
+bad_slot 'a slot without loss' '50,51,1' 'field loss: missing'
+bad_slot 'a slot with five numbers' '50,51,1,0,0' 'field loss: an extra field after it: "0"'
+bad_slot 'a slot word' 'a,51,1,0' 'field start: not a number: "a"'
+bad_slot 'an end over 32 bits' '50,4294967296,1,0' 'field end: above 4294967295: "4294967296"'
+bad_slot 'an owner over 16 bits' '50,51,65536,0' 'field owner: above 65535: "65536"'
+bad_slot 'an owner far over 64 bits' '50,51,99999999999999999999999,0' 'field owner: above 65535'
+bad_slot "an owner's name" '50,51,chime,0' 'field owner: not a number: "chime"'
+bad_slot 'an empty owner' '50,51,,0' 'field owner: not a number: ""'
+bad_slot 'a loss over 16 bits' '50,51,1,65536' 'field loss: above 65535: "65536"'
+bad_slot 'a loss far over 64 bits' '50,51,1,99999999999999999999999' 'field loss: above 65535'
+bad_slot 'a loss below 0' '50,51,1,-1' 'field loss: not a number: "-1"'
+bad_slot 'half a tick of loss' '50,51,1,0.5' 'field loss: not a number: "0.5"'
+bad_slot 'an empty loss' '50,51,1,' 'field loss: not a number: ""'
 
 fresh; echo '1,55,27,70,70,3,10,0,2' >"$folder/tasks.csv"
 complains 'no header' 'tasks.csv:1: field id: the header has another name here: "1"'
@@ -160,18 +168,26 @@ fresh; printf '\357\273\277' >"$folder/tasks.csv"
 complains 'a byte-order mark alone' 'tasks.csv:1: field id: no header line'
 fresh; printf '\357\273%s\n' "$tasks_header" >"$folder/tasks.csv"
 complains 'part of a byte-order mark' 'tasks.csv:1: field id: the header has another name here'
-fresh; printf '%s\n\357\273\2771,2,3\n' "$slots_header" >"$folder/slots.csv"
+fresh; printf '%s\n\357\273\2771,2,3,0\n' "$slots_header" >"$folder/slots.csv"
 complains 'a byte-order mark on a later line' 'slots.csv:2: field start: not a number'
-fresh; echo 'begin,end,owner' >"$folder/slots.csv"
+fresh; echo 'begin,end,owner,loss' >"$folder/slots.csv"
 complains 'another header' 'slots.csv:1: field start: the header has another name here: "begin"'
 fresh; printf '# for the painter alone\nstart,end\n11,21\n' >"$folder/slots.csv"
 complains 'a header without owner' 'slots.csv:2: field owner: missing'
 fresh; printf 'start,end\n11,21,1\n' >"$folder/slots.csv"
 complains 'owners below a header without them' 'slots.csv:1: field owner: missing'
-fresh; echo 'start,end,task' >"$folder/slots.csv"
+fresh; echo 'start,end,task,loss' >"$folder/slots.csv"
 complains 'another name for the owner' 'slots.csv:1: field owner: the header has another name here: "task"'
+fresh; printf '# as it was without losses\nstart,end,owner\n11,21,1\n' >"$folder/slots.csv"
+complains 'a header without loss' 'slots.csv:2: field loss: missing'
+fresh; printf 'start,end,owner\n11,21,1,0\n' >"$folder/slots.csv"
+complains 'losses below a header without them' 'slots.csv:1: field loss: missing'
+fresh; echo 'start,end,owner,spare' >"$folder/slots.csv"
+complains 'another name for the loss' 'slots.csv:1: field loss: the header has another name here: "spare"'
+fresh; echo 'start,end,loss,owner' >"$folder/slots.csv"
+complains 'loss before owner' 'slots.csv:1: field owner: the header has another name here: "loss"'
 fresh; echo "$slots_header,spare" >"$folder/slots.csv"
-complains 'a header with one column more' 'slots.csv:1: field owner: an extra field after it: "spare"'
+complains 'a header with one column more' 'slots.csv:1: field loss: an extra field after it: "spare"'
 fresh; rm "$folder/slots.csv"
 complains 'a missing table' 'slots.csv: No such file'
 fresh; mkdir "$folder/slots.bin.part"
@@ -197,42 +213,18 @@ mkdir "$folder/into"
 "$records" show "$folder/into" >"$folder/shown" || fail 'another folder: show'
 grep -qx '1,55,27,70,70,3,10,0,2' "$folder/shown" || fail 'another folder: other records'
 
-# A part record is shown as far as it goes and complained about.
-tried=$((tried + 1))
-fresh
-"$records" make "$folder" || fail 'part record: make'
-printf 'x' >>"$folder/tasks.bin"
-"$records" show "$folder" >"$folder/shown" 2>"$folder/said" && fail 'part record: taken'
-grep -qF "tasks.bin: 33 bytes, the last record isn't whole" "$folder/said" || fail 'part record: said something else'
-
-# spare RECORD PLACE BYTE: the spare byte at PLACE, 0 or 1, of a record of slots.bin becomes BYTE, in octal.
-spare() { printf "\\$3" | dd of="$folder/slots.bin" bs=1 seek=$((12 * $1 + 10 + $2)) conv=notrunc 2>/dev/null; }
-
-# lost NAME RECORDS [MORE]: `show` must print the whole table, say that it leaves out the spare bytes of these records,
-# then MORE, and fail.
-lost() {
+# part TABLE BYTES: a part record is complained about, the records before it are shown.
+part() {
     tried=$((tried + 1))
-    "$records" show "$folder" >"$folder/shown" 2>"$folder/said" && fail "$1: taken"
-    for record in $2; do
-        echo "slots.bin: record $record: its spare bytes aren't zero, and the table leaves them out"
-    done >"$folder/expected"
-    [ -z "${3:-}" ] || echo "$3" >>"$folder/expected"
-    sed "s|$folder/||g" "$folder/said" | cmp -s - "$folder/expected" || fail "$1: said \"$(cat "$folder/said")\""
-    sed '1,/^# slots.csv/d' "$folder/shown" | cmp -s - "$folder/slots.csv" || fail "$1: shown differently"
+    fresh
+    "$records" make "$folder" || fail "part record of $1: make"
+    printf 'x' >>"$folder/$1.bin"
+    "$records" show "$folder" >"$folder/shown" 2>"$folder/said" && fail "part record of $1: taken"
+    grep -qF "$1.bin: $2 bytes, the last record isn't whole" "$folder/said" || fail "part record of $1: said something else"
+    sed -n "/^# $1.csv/,\$p" "$folder/shown" | sed 1d | cmp -s - "$folder/$1.csv" || fail "part record of $1: shown differently"
 }
-
-# Spare bytes have no column, so a table can't give them back; made again from the table they are zero.
-fresh
-"$records" make "$folder" || fail 'spare bytes: make'
-cp "$folder/slots.bin" "$folder/slots.first"
-spare 0 0 001; lost 'the first spare byte of the first slot' 0
-spare 0 0 000; spare 1 1 200; lost 'the second spare byte of the last slot' 1
-spare 0 1 377; lost 'spare bytes of two slots' '0 1'
-printf 'x' >>"$folder/slots.bin"
-lost 'spare bytes and a part record' '0 1' "slots.bin: 25 bytes, the last record isn't whole (12 bytes each)"
-tried=$((tried + 1))
-"$records" make "$folder" || fail 'spare bytes: make again'
-cmp -s "$folder/slots.bin" "$folder/slots.first" || fail 'spare bytes: not zero again'
+part tasks 33
+part slots 25
 
 # Boards that would be refused: the line is named, and whose slot it is, and the records are written all the same.
 beyond='first + count goes beyond the last slot record'
@@ -241,6 +233,7 @@ many='the board has more than 512 slot records'
 empty="a slot whose start isn't below its end"
 past='a slot whose end is above the wheel w'
 early='a slot whose start is below the end of the slot before it'
+long='a slot whose loss is above its length'
 id="the id isn't from 0 to 65,535"
 task='7,55,27,70,70,3,10,0,3'
 board='of the board of task 7 (tasks.csv:2)'
@@ -277,6 +270,25 @@ tables "$task" '0,10,7\n20,30,5\n15,40,7'
 tells "17 behind the task's own slot" "slots.csv:4: slot 2 (owner 7) $board: $early (slots.csv:3, owner 5)"
 tables '7,55,27,70,70,3,10,1,2' '0,30,5\n20,30,7\n40,50,7'; tells "another owner's slot before the board's first" ''
 
+tables "$task" '0,10,7,10\n10,20,5,10\n50,55,7,5'; tells 'losses as long as their slots' ''
+tables "$task" '0,10,7,11\n20,30,7\n40,50,7'
+tells '18 in the first slot' "slots.csv:2: slot 0 (owner 7) $board: $long (loss 11, length 10)"
+tables "$task" '0,10,7\n20,30,7,256\n40,50,7'
+tells '18 in a middle slot' "slots.csv:3: slot 1 (owner 7) $board: $long (loss 256, length 10)"
+tables "$task" '0,10,7\n20,30,7\n54,55,7,65535'
+tells '18 in the last slot' "slots.csv:4: slot 2 (owner 7) $board: $long (loss 65535, length 1)"
+tables "$task" '0,10,7\n20,30,5,11\n40,50,7'
+tells "18 in another owner's slot" "slots.csv:3: slot 1 (owner 5) $board: $long (loss 11, length 10)"
+tables "$task" '0,10,7\n10,20,7,11\n40,50,7'
+tells "18 where the owner's slots touch" "slots.csv:3: slot 1 (owner 7) $board: $long (loss 11, length 10)"
+tables '7,55,27,70,70,3,10,1,2' '0,30,7,31\n20,30,7\n40,50,7'; tells "a long loss before the board's first slot" ''
+
+tables "$task" '0,10,7\n30,30,7,1\n40,50,7'; tells '15 and 18 in one slot' "slots.csv:3: slot 1 (owner 7) $board: $empty"
+tables "$task" '0,10,7\n20,30,7\n40,56,7,17'; tells '16 and 18 in one slot' "slots.csv:4: slot 2 (owner 7) $board: $past"
+tables "$task" '0,10,7\n9,30,7,22\n40,50,7'
+tells '17 and 18 in one slot' "slots.csv:3: slot 1 (owner 7) $board: $early (slots.csv:2, owner 7)"
+tables "$task" '0,10,7\n20,30,7,11\n40,40,7'
+tells '18 in a slot, 15 in a later one' "slots.csv:3: slot 1 (owner 7) $board: $long (loss 11, length 10)"
 tables "$task" '0,30,7\n80,70,7\n40,50,7'; tells '15 and 16 in one slot' "slots.csv:3: slot 1 (owner 7) $board: $empty"
 tables "$task" '0,30,7\n20,70,7\n40,50,7'; tells '16 and 17 in one slot' "slots.csv:3: slot 1 (owner 7) $board: $past"
 tables "$task" '0,30,7\n20,40,5\n50,50,7'
@@ -307,7 +319,7 @@ tells 'blank lines and comments' "slots.csv:6: slot 1 (owner 7) of the board of 
 tasks.csv:6: task 8: $wheel"
 fresh
 printf '\357\273\277# signs\n\n%s\n1,55,27,70,70,3,10,0,2' "$tasks_header" >"$folder/tasks.csv"
-printf '\357\273\277%s\n11,21,1\n#\n33,56,1' "$slots_header" >"$folder/slots.csv"
+printf '\357\273\277%s\n11,21,1,0\n#\n33,56,1,0' "$slots_header" >"$folder/slots.csv"
 tried=$((tried + 1))
 "$records" make "$folder" 2>"$folder/said" || fail 'lines behind a mark: make'
 said=$(sed "s|$folder/||g" "$folder/said")

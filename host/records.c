@@ -12,10 +12,6 @@
  * too. Where a task's board would be refused it says on standard error which
  * line is wrong, whose slot that is and why, but the records are written all the
  * same and the exit status stays 0. A task's other numbers aren't looked at.
- *
- * A slot's spare bytes have no column: `make` writes zeros. `show` says on
- * standard error which records, counted from 0, have others, since the printed
- * table doesn't give them back, and the exit status is then 1.
  */
 #include "bytes.h"
 #include "files.h"
@@ -37,17 +33,17 @@ enum { COLUMNS_MAX = 9 };
 
 struct table {
     const char *csv, *bin, *part; /* part: what is written before the rename */
-    size_t columns, spare, record_bytes; /* spare: bytes behind the columns, all zero */
+    size_t columns, record_bytes;
     struct column column[COLUMNS_MAX];
 };
 
 enum { TASKS, SLOTS, TABLES };
 
 static const struct table tables[TABLES] = {
-    [TASKS] = {"tasks.csv", "tasks.bin", "tasks.bin.part", 9, 0, FIDDLEQUILL_TASK_BYTES,
+    [TASKS] = {"tasks.csv", "tasks.bin", "tasks.bin.part", 9, FIDDLEQUILL_TASK_BYTES,
                {{"id", 4}, {"w", 4}, {"e", 4}, {"D", 4}, {"h", 4}, {"m", 4}, {"k", 4}, {"first", 2}, {"count", 2}}},
-    [SLOTS] = {"slots.csv", "slots.bin", "slots.bin.part", 3, 2, FIDDLEQUILL_SLOT_BYTES,
-               {{"start", 4}, {"end", 4}, {"owner", 2}}},
+    [SLOTS] = {"slots.csv", "slots.bin", "slots.bin.part", 4, FIDDLEQUILL_SLOT_BYTES,
+               {{"start", 4}, {"end", 4}, {"owner", 2}, {"loss", 2}}},
 };
 
 /* ---- reading a table ---- */
@@ -195,7 +191,6 @@ static int read_record(const struct table *table, const struct place *place, con
         put_number(at, number, table->column[i].width);
         at += table->column[i].width;
     }
-    put_number(at, 0, table->spare);
     return 0;
 }
 
@@ -294,9 +289,21 @@ static int write_all(const char *folder, const struct records *records)
     return renamed == TABLES ? 0 : -1;
 }
 
+static const uint8_t *slot_at(const struct records *slots, size_t i)
+{
+    return slots->bytes + i * FIDDLEQUILL_SLOT_BYTES;
+}
+
 static uint32_t owner_of(const struct records *slots, size_t i)
 {
-    return get_number(slots->bytes + i * FIDDLEQUILL_SLOT_BYTES + 8, 2);
+    return get_number(slot_at(slots, i) + 8, 2);
+}
+
+/* 18 is tested last: where it is given the slot has a length. */
+static void tell_loss(const uint8_t *slot)
+{
+    fprintf(stderr, " (loss %" PRIu32 ", length %" PRIu32 ")", get_number(slot + 10, 2),
+            get_number(slot + 4, 4) - get_number(slot, 4));
 }
 
 /* A slot that starts too early clashes with the record before it, and either of them may be the wrong one. */
@@ -305,6 +312,8 @@ static void tell_slot(const struct records *slots, size_t i, uint32_t number)
     fprintf(stderr, "%s", fiddlequill_meaning(number));
     if (number == FIDDLEQUILL_EARLY_SLOT) /* so it isn't the board's first */
         fprintf(stderr, " (%s:%zu, owner %" PRIu32 ")", slots->path, slots->lines[i - 1], owner_of(slots, i - 1));
+    if (number == FIDDLEQUILL_LONG_LOSS)
+        tell_loss(slot_at(slots, i));
     fprintf(stderr, "\n");
 }
 
@@ -358,24 +367,8 @@ static void print_table(const struct table *table, const struct file *file)
             printf("%s%" PRIu32, i == 0 ? "" : ",", get_number(at, table->column[i].width));
             at += table->column[i].width;
         }
-        at += table->spare;
         printf("\n");
     }
-}
-
-/* Says which records have spare bytes that the printed table doesn't give back. */
-static int tell_spare(const struct table *table, const struct file *file)
-{
-    int status = 0;
-    for (size_t record = 0; record < file->len / table->record_bytes; record++) {
-        const uint8_t *end = file->bytes + (record + 1) * table->record_bytes;
-        if (get_number(end - table->spare, table->spare) == 0)
-            continue;
-        fprintf(stderr, "%s: record %zu: its spare bytes aren't zero, and the table leaves them out\n", file->path,
-                record);
-        status = -1;
-    }
-    return status;
 }
 
 static int tell_length(const struct table *table, const struct file *file)
@@ -393,9 +386,7 @@ static int show_table(const struct table *table, const char *folder)
     if (read_file(&file, folder, table->bin) != 0)
         return -1;
     print_table(table, &file);
-    int status = tell_spare(table, &file);
-    if (tell_length(table, &file) != 0)
-        status = -1;
+    int status = tell_length(table, &file);
     free(file.bytes);
     return status;
 }

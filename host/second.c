@@ -27,7 +27,7 @@ enum {
     DEFAULT_INPUTS = 200000,
     DEFAULT_SEED = 20260,
     GUARD = 64,
-    SETS_MAX = 6,        /* free slots whose sets are all tried after a refusal 13 */
+    SETS_MAX = 8,        /* free slots whose sets are all tried after a refusal 13 */
     SETS_WHEEL_MAX = 48, /* and the longest wheel for it */
     LONG_SITE = 5000,    /* records; their bytes, their slots' and their answers' all go beyond 16 bits */
 };
@@ -127,7 +127,7 @@ static void define(const struct input *in, struct expected *expected)
     else if (in->kind == WHICH)
         expected->result = definition_which_slot(in->task, in->task_len, in->slots, in->slots_len);
     else
-        expected->result = definition_grant(expected->marks, in->marks_len, in->v, &in->strips);
+        expected->result = definition_grant(expected->marks, in->marks_len, in->v, in->loss, &in->strips);
 }
 
 static bool has_reply(enum kind kind)
@@ -154,7 +154,7 @@ static uint64_t ask_grant(const struct input *in, struct lent_buffers *buffers, 
 {
     const struct strips *s = &in->strips;
     uint8_t *marks = lend(&buffers->marks, in->marks, in->marks_len, in->null_when_empty, rng);
-    return fiddlequill_grant(marks, in->marks_len, in->v, s->e, s->D, s->h, s->m, s->k);
+    return fiddlequill_grant(marks, in->marks_len, in->v, in->loss, s->e, s->D, s->h, s->m, s->k);
 }
 
 /* ---- comparing ---- */
@@ -174,8 +174,9 @@ static void print_input(const struct input *in)
     const struct strips *s = &in->strips;
     if (in->kind == GRANT) {
         print_hex("marks", in->marks, in->marks_len);
-        printf("  v %" PRIu64 " e %" PRIu64 " d %" PRIu64 " h %" PRIu64 " m %" PRIu64 " k %" PRIu64 "\n", in->v, s->e,
-               s->D, s->h, s->m, s->k);
+        printf("  v %" PRIu64 " loss %" PRIu64 " e %" PRIu64 " d %" PRIu64 " h %" PRIu64 " m %" PRIu64 " k %" PRIu64
+               "\n",
+               in->v, in->loss, s->e, s->D, s->h, s->m, s->k);
         return;
     }
     print_hex("task", in->task, in->task_len);
@@ -376,7 +377,8 @@ static bool no_set_holds(const struct input *in, struct tally *tally)
     if (free_slots > SETS_MAX || in->marks_len * in->v > SETS_WHEEL_MAX)
         return true;
     tally->met[NEVER_FIRM_SETS] += free_slots > 1;
-    if (!some_set_is_firm(in->marks, in->marks_len, in->v, &in->strips))
+    tally->met[NEVER_FIRM_SETS_LOSS] += free_slots > 1 && in->loss > 0;
+    if (!some_set_is_firm(in->marks, in->marks_len, in->v, in->loss, &in->strips))
         return true;
     printf("  refused with 13, but some set of free slots is firm\n");
     return false;
@@ -545,8 +547,9 @@ static bool hand_cases_agree(struct input *in, struct lent_buffers *buffers)
 }
 
 /*
- * T of the paper again and again, with needs from a refused 0 to more than any supply. Each record has an id of its
- * own, the last of them ids that no task may have, and a board of two slots, of which T's is the first.
+ * T of the paper again and again, with needs from a refused 0 to more than any supply, and losses up to a refused 9.
+ * Each record has an id of its own, the last of them ids that no task may have, and a board of two slots, of which T's
+ * is the first.
  */
 static void fill_long_site(uint8_t *tasks, uint8_t *slots)
 {
@@ -559,6 +562,7 @@ static void fill_long_site(uint8_t *tasks, uint8_t *slots)
             put_number(slot, board[j][0], 4);
             put_number(slot + 4, board[j][1], 4);
             put_number(slot + OWNER_AT, task.id + j, 2);
+            put_number(slot + LOSS_AT, j == 0 ? i / 7 % 10 : 0, 2);
         }
     }
 }

@@ -114,20 +114,35 @@ says 'tables' '' "$whole"
 # Tables with a bad slot or too large an id make a sheet like any others, and the line is said beside it.
 fresh; rm "$folder/site"/*
 printf 'id,w,e,D,h,m,k,first,count\n1,55,27,70,70,3,10,0,2\n65537,55,27,70,70,3,10,0,2\n' >"$folder/site/tasks.csv"
-printf 'start,end,owner\n11,21,1\n33,56,2\n' >"$folder/site/slots.csv"
+printf 'start,end,owner,loss\n11,21,1,0\n33,56,2,0\n' >"$folder/site/slots.csv"
 past='a slot whose end is above the wheel w'
 says 'a bad slot and a bad id' \
     "$folder/site/slots.csv:3: slot 1 (owner 2) of the board of task 1 ($folder/site/tasks.csv:2): $past
 $folder/site/tasks.csv:3: task 65537: the id isn't from 0 to 65,535" \
     '1 16 0 0 0
 65537 19 0 0 0'
+printf 'start,end,owner,loss\n11,21,1,10\n33,43,2,11\n' >"$folder/site/slots.csv"
+long='a slot whose loss is above its length (loss 11, length 10)'
+says 'a long loss and a bad id' \
+    "$folder/site/slots.csv:3: slot 1 (owner 2) of the board of task 1 ($folder/site/tasks.csv:2): $long
+$folder/site/tasks.csv:3: task 65537: the id isn't from 0 to 65,535" \
+    '1 18 0 0 0
+65537 19 0 0 0'
+# Of the losses of task 1 each takes a tick, those of tasks 2 and 3 are a pair's, which takes none, and a slot's own.
+fresh; rm "$folder/site"/*
+printf 'id,w,e,D,h,m,k,first,count\n1,55,27,70,70,3,10,0,2\n2,10,4,5,14,1,2,2,2\n3,10,3,5,14,1,2,4,1\n' \
+    >"$folder/site/tasks.csv"
+printf 'start,end,owner,loss\n11,21,1,1\n33,43,1,1\n0,4,2,0\n4,8,2,4\n0,8,3,1\n' >"$folder/site/slots.csv"
+says 'losses' '' '1 0 0 9 45
+2 0 0 2 9
+3 0 1 1 3'
 fresh; rm "$folder/site"/*; cp "$site/tasks.csv" "$folder/site"
 says 'no slots.csv' "make sheet: $folder/site/slots.csv: no such file" "$only"
 fresh; rm "$folder/site"/*; cp "$site/slots.csv" "$folder/site"
 says 'no tasks.csv' "make sheet: $folder/site/tasks.csv: no such file" "$only"
 
 # No sheet stands for a table that can't be read or a site that isn't there.
-tried=$((tried + 3))
+tried=$((tried + 4))
 fresh; rm "$folder/site"/*; cp "$site"/*.csv "$folder/site"; echo 1 >>"$folder/site/slots.csv"
 "$here/sheet.sh" "$sheet" "$records" "$folder/site" "$folder/room" >/dev/null 2>&1 && fail 'a bad table: taken'
 "$here/sheet.sh" "$sheet" "$records" "$folder/none" "$folder/room" >/dev/null 2>&1 && fail 'no site: taken'
@@ -136,6 +151,11 @@ printf 'start,end\n11,21\n33,43\n0,8\n' >"$folder/site/slots.csv"
     fail 'slots without owners: taken'
 [ "$(cat "$folder/said")" = "$folder/site/slots.csv:1: field owner: missing" ] ||
     fail "slots without owners: said \"$(cat "$folder/said")\""
+printf 'start,end,owner\n11,21,1\n33,43,1\n0,8,2\n' >"$folder/site/slots.csv"
+"$here/sheet.sh" "$sheet" "$records" "$folder/site" "$folder/room" >"$folder/said" 2>&1 &&
+    fail 'slots without losses: taken'
+[ "$(cat "$folder/said")" = "$folder/site/slots.csv:1: field loss: missing" ] ||
+    fail "slots without losses: said \"$(cat "$folder/said")\""
 
 echo "sheet-test: $tried cases, $failed failed"
 [ "$failed" -eq 0 ]

@@ -15,7 +15,7 @@
 #include <stdlib.h>
 #include <string.h>
 
-enum { STACK = 1 << 20, PAINT = 0xa5, PAGE = 4096, SITE_TASKS = 3, TASK_ID = 1, FEW_SLOTS = 64 };
+enum { STACK = 1 << 20, PAINT = 0xa5, PAGE = 4096, SITE_TASKS = 3, TASK_ID = 1, FEW_SLOTS = 64, LOSS = 1 };
 
 /* A wheel, its slots, all of them the task's, and the largest k; a need that makes some strips drop. */
 struct biggest {
@@ -39,10 +39,10 @@ static void fill_site(struct biggest *b)
     }
 }
 
-/* At most half as many slots as ticks. */
+/* At most half as many slots as ticks. Each keeps half of its pitch, and loses a tick where that leaves a gap. */
 static void fill(struct biggest *b, uint32_t w, uint32_t slots)
 {
-    const uint32_t pitch = w / slots;
+    const uint32_t pitch = w / slots, loss = pitch > 2 ? LOSS : 0;
     b->w = w;
     b->k = FIDDLEQUILL_STRIPS_MAX;
     b->h = w + w / 3 + 1;
@@ -57,8 +57,9 @@ static void fill(struct biggest *b, uint32_t w, uint32_t slots)
     for (uint32_t i = 0; i < slots; i++) {
         uint8_t *slot = b->slots + i * FIDDLEQUILL_SLOT_BYTES;
         put_number(slot, i * pitch, 4);
-        put_number(slot + 4, i * pitch + pitch / 2, 4);
-        put_number(slot + 8, TASK_ID, 4); /* the owner, and zero for the spare bytes */
+        put_number(slot + 4, i * pitch + pitch / 2 + loss, 4);
+        put_number(slot + 8, TASK_ID, 2);
+        put_number(slot + 10, loss, 2);
     }
     memset(b->marks, 1, sizeof b->marks);
 }
@@ -127,7 +128,8 @@ static void *grant(void *context)
 {
     struct biggest *b = context;
     b->number = fiddlequill_number(
-        fiddlequill_grant(b->marks, sizeof b->marks, b->w / sizeof b->marks, b->e, b->h, b->h, b->k / 2, b->k));
+        fiddlequill_grant(b->marks, sizeof b->marks, b->w / sizeof b->marks, LOSS, b->e, b->h, b->h, b->k / 2,
+                          b->k));
     return NULL;
 }
 

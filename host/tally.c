@@ -39,9 +39,16 @@ static uint32_t end_of(const struct input *input, size_t record)
     return get_number(input->slots + record * SLOT_BYTES + 4, 4);
 }
 
-static uint32_t spare_of(const struct input *input, size_t record)
+static uint32_t loss_of(const struct input *input, size_t record)
 {
-    return get_number(input->slots + record * SLOT_BYTES + SPARE_AT, 2);
+    return get_number(input->slots + record * SLOT_BYTES + LOSS_AT, 2);
+}
+
+/* 0 where the start isn't below the end. */
+static uint32_t length_of(const struct input *input, size_t record)
+{
+    const uint32_t start = start_of(input, record), end = end_of(input, record);
+    return start < end ? end - start : 0;
 }
 
 static bool owns(const struct task *task, const struct input *input, size_t record)
@@ -71,6 +78,30 @@ static void add_early(struct tally *tally, const struct task *task, const struct
     note(tally, EARLY_THIRD, !own && !own_before && third);
 }
 
+/* Whether a slot starts where one of its owner's ends on the wheel; a slot that fills it touches itself. */
+static bool touches_own(const struct task *task, const struct input *input, size_t record)
+{
+    for (size_t i = task->first; i < task->first + task->count; i++)
+        if (owner_at(input->slots, i) == owner_at(input->slots, record) &&
+            end_of(input, i) % task->w == start_of(input, record))
+            return true;
+    return false;
+}
+
+/* Refusal 18 by how much too long the loss is; what the slot touches plays no part. */
+static void add_long_loss(struct tally *tally, const struct task *task, const struct input *input, uint32_t place)
+{
+    const size_t record = task->first + place;
+    const uint32_t loss = loss_of(input, record), length = length_of(input, record), low = loss % 256;
+    note(tally, LOSS_OVER, loss == length + 1);
+    note(tally, LOSS_SHORT, loss < 256);
+    note(tally, LOSS_WHOLE_BYTES, low == 0);
+    note(tally, LOSS_LOW, low > 0 && low <= length);
+    note(tally, LOSS_WIDE, loss == LOSS_MAX);
+    note(tally, LOSS_TOUCHING, touches_own(task, input, record) && length < task->w);
+    note(tally, LOSS_FILLING, length == task->w);
+}
+
 /* The task has slots, and nothing is wrong with them. */
 static bool own_slots_do(const struct task *task, const struct input *input)
 {
@@ -93,15 +124,14 @@ static void note_bad_slot(struct tally *tally, enum kind kind, const uint8_t *by
     if (!about_slot(number))
         return;
     struct task task = task_of_bytes(bytes);
-    const uint32_t spare = spare_of(input, task.first + place);
     const bool last = place + 1 == task.count;
     uint64_t *met = tally->bad_slots[kind][number - ABOUT_SLOT];
     met[place == 0 ? FIRST_PLACE : last ? LAST_PLACE : MIDDLE_PLACE]++;
     met[owns(&task, input, task.first + place) ? OWN_SLOT : OTHERS_SLOT]++;
     if (number == 17)
         add_early(tally, &task, input, place);
-    note(tally, SPARE_FIRST, number == 18 && spare < 256);
-    note(tally, SPARE_SECOND, number == 18 && spare % 256 == 0);
+    if (number == 18)
+        add_long_loss(tally, &task, input, place);
     note(tally, BAD_OTHERS, own_slots_do(&task, input));
 }
 
@@ -111,17 +141,30 @@ static void note_bad_slot(struct tally *tally, enum kind kind, const uint8_t *by
 struct board {
     uint32_t owned, others;       /* slots */
     uint32_t owned_ticks, ticks;  /* of the task's slots, and of all */
+    uint32_t usable;              /* ticks that the task's slots give it */
     bool touching, touches_other; /* slots of the task's each other, and one of them another owner's */
     bool between;                 /* another owner's slot lies between two of the task's */
+    bool losses, others_losses;   /* a slot of the task's has one, and another owner's */
+    bool whole_loss;              /* some slot's is as long as the slot */
     bool low, high;               /* another owner has the id's lower byte, or its upper one */
 };
 
+static uint32_t usable_ticks(const struct task *task, const struct input *input)
+{
+    struct wheel wheel;
+    uint32_t sum = 0;
+    wheel_of_task(&wheel, task, input->slots);
+    for (uint32_t tick = 0; tick < task->w; tick++)
+        sum += wheel.usable[tick];
+    return sum;
+}
+
 static struct board board_of(const struct task *task, const struct input *input)
 {
-    struct board board = {0};
+    struct board board = {.usable = usable_ticks(task, input)};
     uint32_t others_then = 0; /* when the task's last slot was met */
     for (size_t i = task->first; i < task->first + task->count; i++) {
-        const uint32_t owner = owner_at(input->slots, i), ticks = end_of(input, i) - start_of(input, i);
+        const uint32_t owner = owner_at(input->slots, i), ticks = length_of(input, i), loss = loss_of(input, i);
         const bool own = owner == task->id;
         if (i > task->first && start_of(input, i) == end_of(input, i - 1)) {
             board.touching |= own && owns(task, input, i - 1);
@@ -137,6 +180,9 @@ static struct board board_of(const struct task *task, const struct input *input)
         board.ticks += ticks;
         board.low |= !own && owner % 256 == task->id % 256;
         board.high |= !own && owner / 256 == task->id / 256;
+        board.losses |= own && loss > 0;
+        board.others_losses |= !own && loss > 0;
+        board.whole_loss |= loss == ticks;
     }
     return board;
 }
@@ -145,7 +191,7 @@ static struct board board_of(const struct task *task, const struct input *input)
 static bool fits_task(const struct task *task, const struct input *input, size_t record)
 {
     return start_of(input, record) < end_of(input, record) && end_of(input, record) <= task->w &&
-           spare_of(input, record) == 0 && owns(task, input, record);
+           loss_of(input, record) <= length_of(input, record) && owns(task, input, record);
 }
 
 /* Slots with the task's id just outside its board: they aren't the task's. */
@@ -173,6 +219,106 @@ static void add_owners(struct tally *tally, const struct task *task, const struc
     note(tally, OWNER_65535, shared && task->id == ID_MAX);
 }
 
+/* ---- lost ticks ---- */
+
+/* Answers and supplies stand in the order of the mistakes that would show in them. */
+_Static_assert(HIGH_BYTE_ANSWER - LOSS_ANSWER == HIGH_BYTE_LOST - NOTHING_LOST &&
+                   HIGH_BYTE_SUPPLY - LOSS_SUPPLY == HIGH_BYTE_LOST - NOTHING_LOST,
+               "a mistake about losses without its classes");
+
+static enum input_class lost_class(enum input_class of_nothing_lost, enum mistake mistake)
+{
+    return (enum input_class)(of_nothing_lost + mistake - NOTHING_LOST);
+}
+
+/* Makes the wheel with the mistake, and says whether it is another one. */
+static bool tells(struct wheel *wrong, enum mistake mistake, const struct task *task, const struct input *input)
+{
+    struct wheel right;
+    wheel_of_task(&right, task, input->slots);
+    wheel_with(wrong, mistake, task, input->slots, input->slots_len);
+    return memcmp(wrong->usable, right.usable, task->w) != 0;
+}
+
+static bool loses_ticks(const struct task *task, const struct input *input)
+{
+    struct wheel unused;
+    return tells(&unused, NOTHING_LOST, task, input);
+}
+
+/* Whether more verdicts can be afforded than the one that is due. */
+static bool is_cheap(const struct strips *strips, uint64_t w)
+{
+    static const uint64_t cells = 400000;
+    return 2 * w * (2 * strips->D + strips->k) <= cells;
+}
+
+static bool same_answer(const struct verdict *one, const struct verdict *other)
+{
+    return one->worst == other->worst && one->offset == other->offset && one->firm == other->firm &&
+           one->least.sixths == other->least.sixths;
+}
+
+static void add_lost(struct tally *tally, const struct task *task, const struct input *input,
+                     const struct verdict *right)
+{
+    struct strips strips = strips_of_task(task);
+    struct wheel wheel;
+    for (enum mistake mistake = NOTHING_LOST; mistake < MISTAKES && is_cheap(&strips, task->w); mistake++) {
+        if (!tells(&wheel, mistake, task, input))
+            continue;
+        const struct verdict wrong = verdict_of(&wheel, &strips);
+        const bool nothing = mistake == NOTHING_LOST, touching = mistake == TOUCHING_LOSES;
+        note(tally, lost_class(LOSS_ANSWER, mistake), !same_answer(&wrong, right));
+        note(tally, LOSS_WORST, nothing && wrong.worst < right->worst);
+        note(tally, LOSS_FIRM, nothing && wrong.firm && !right->firm);
+        note(tally, LOSS_LEAST, nothing && wrong.least.sixths > right->least.sixths);
+        note(tally, TOUCH_WORST, touching && wrong.worst > right->worst);
+        note(tally, TOUCH_FIRM, touching && !wrong.firm && right->firm);
+        note(tally, TOUCH_LEAST, touching && wrong.least.sixths < right->least.sixths);
+    }
+}
+
+static uint64_t supply_for(enum mistake mistake, const struct task *task, const struct input *input)
+{
+    return supply_with(mistake, task, input->slots, input->slots_len, input->offset);
+}
+
+static void add_lost_supply(struct tally *tally, const struct task *task, const struct input *input, uint64_t supply)
+{
+    for (enum mistake mistake = NOTHING_LOST; mistake < MISTAKES; mistake++)
+        note(tally, lost_class(LOSS_SUPPLY, mistake), supply_for(mistake, task, input) != supply);
+}
+
+/* The losses of a good board; the slots whose first tick isn't the task's are those that lose some. */
+static void add_losses(struct tally *tally, const struct task *task, const struct input *input)
+{
+    const size_t first = task->first, last = first + task->count - 1;
+    const uint32_t w = task->w, last_end = end_of(input, last);
+    const bool own_last = owns(task, input, last);
+    bool whole = false, but_one = false, touching = false, others = false, bytes = false, round = false;
+    struct wheel wheel;
+    wheel_of_task(&wheel, task, input->slots);
+    for (size_t i = first; i <= last; i++) {
+        const uint32_t start = start_of(input, i), length = length_of(input, i), loss = loss_of(input, i);
+        const bool own = owns(task, input, i), loses = own && loss > 0 && wheel.usable[start] == 0;
+        whole |= loses && loss == length;
+        but_one |= loses && loss + 1 == length;
+        touching |= own && !loses && loss == length;
+        others |= !own && loss == length;
+        bytes |= loses && loss % 256 == 0;
+        round |= loses && start == 0;
+    }
+    note(tally, LOSS_WHOLE, whole);
+    note(tally, LOSS_ALL_BUT_ONE, but_one);
+    note(tally, LOSS_EVERY, whole && memchr(wheel.usable, 1, w) == NULL);
+    note(tally, LOSS_WHOLE_TOUCHING, touching);
+    note(tally, LOSS_OTHERS_WHOLE, others);
+    note(tally, LOSS_256, bytes);
+    note(tally, LOSS_ROUND_BELOW, round && own_last && last_end + 1 == w);
+    note(tally, LOSS_ROUND_OTHER, round && !own_last && last_end == w);
+}
+
 /* ---- tasks ---- */
 
 static void add_table(struct tally *tally, const struct task *task, const struct input *input,
@@ -191,6 +337,9 @@ static void add_table(struct tally *tally, const struct task *task, const struct
     note(tally, LAST_RECORDS, task->first > 0 && task->count > 0 &&
                                   task->first + task->count == input->slots_len / SLOT_BYTES);
     note(tally, LAST_FIRST, task->first == 65535 && task->count > 0);
+    note(tally, LOSS_OTHERS, board->others_losses && board->owned > 0 && !board->losses);
+    if (board->losses || board->others_losses)
+        add_losses(tally, task, input);
     add_owners(tally, task, board);
     add_outsiders(tally, task, input);
 }
@@ -216,7 +365,7 @@ struct turns {
 
 static struct turns turns_of(const struct task *task, const struct board *board)
 {
-    uint64_t rest = task->D % task->w, turns = (uint64_t)(task->D / task->w) * board->owned_ticks;
+    uint64_t rest = task->D % task->w, turns = (uint64_t)(task->D / task->w) * board->usable;
     bool both = turns > 0 && rest > 0;
     return (struct turns){both && turns > task->e, both && turns + rest < task->e};
 }
@@ -249,7 +398,7 @@ static void add_shared(struct tally *tally, const struct task *task, const struc
     struct strips strips = strips_of_task(task);
     struct wheel own, all;
     wheel_of_task(&own, task, input->slots);
-    wheel_of_board(&all, task, input->slots);
+    wheel_with(&all, ALL_OWN, task, input->slots, input->slots_len);
     note(tally, SHARED_DROPS, verdict->worst > 0 && verdict->worst < task->k);
     note(tally, SHARED_WORST, margin_at(&own, &strips, 2, verdict->offset) < 0 &&
                                   margin_at(&all, &strips, 2, verdict->offset) >= 0);
@@ -347,7 +496,7 @@ static void add_quick(struct tally *tally, const struct task *task, const struct
 static void add_judged(struct tally *tally, const struct task *task, const struct input *input,
                        const struct board *board, const struct verdict *verdict)
 {
-    bool some = verdict->worst > 0 && verdict->worst < task->k;
+    bool some = verdict->worst > 0 && verdict->worst < task->k, loses = board->losses && loses_ticks(task, input);
     note(tally, DROPS_NONE, verdict->worst == 0);
     note(tally, DROPPED, verdict->worst > 0);
     note(tally, DROPS_SOME, some);
@@ -367,9 +516,14 @@ static void add_judged(struct tally *tally, const struct task *task, const struc
     note(tally, MANY_STRIPS, task->k > STRIPS_MAX / 2 && some);
     note(tally, OWNED_65, board->owned > GRANT_SLOTS_MAX && verdict->worst > 0);
     note(tally, OWNED_512, board->owned == SLOTS_MAX && verdict->worst > 0);
+    note(tally, LOSS_MANY, some && board->owned > GRANT_SLOTS_MAX && loses);
+    note(tally, QUICK_LOSS_FIRM, verdict->worst > 0 && verdict->worst == task->k - task->m && loses);
+    note(tally, QUICK_LOSS_NOT, verdict->worst == task->k - task->m + 1 && loses);
     note_edge(tally, task->w, edge_use_of(task, board->owned), verdict->worst > 0);
     add_least(tally, task, board, verdict);
     add_quick(tally, task, verdict);
+    if (board->losses)
+        add_lost(tally, task, input, verdict);
     if (board->owned > 0 && board->others > 0)
         add_shared(tally, task, input, verdict);
 }
@@ -388,14 +542,8 @@ static void add_counted(struct tally *tally, const struct task *task, const stru
     note(tally, SHARED_COUNT, some && board->owned > 0 && board->others > 0);
     note(tally, COUNTED_65, board->owned > GRANT_SLOTS_MAX && count > 0);
     note(tally, COUNTED_512, board->owned == SLOTS_MAX && count > 0);
+    note(tally, LOSS_COUNT, some && board->losses && loses_ticks(task, input));
     note_edge(tally, task->w, EDGE_COUNT, count > 0);
-}
-
-static uint64_t supply_of_board(const struct task *task, const struct input *input)
-{
-    struct wheel wheel;
-    wheel_of_board(&wheel, task, input->slots);
-    return supply_at(&wheel, task->D, 2, input->offset);
 }
 
 static void add_point(struct tally *tally, const struct task *task, const struct input *input,
@@ -420,7 +568,9 @@ static void add_point(struct tally *tally, const struct task *task, const struct
     note(tally, SUPPLIED_FULL, supply == 2 * (uint64_t)task->D);
     note(tally, SUPPLIED_HALF, supply % 2 == 1);
     note(tally, SUPPLIED_WIDE, supply > 65535);
-    note(tally, SHARED_SUPPLY, board->others > 0 && supply_of_board(task, input) > supply);
+    note(tally, SHARED_SUPPLY, board->others > 0 && supply_for(ALL_OWN, task, input) > supply);
+    if (board->losses)
+        add_lost_supply(tally, task, input, supply);
 }
 
 /* Slots that would be whole records of eight bytes, but aren't of twelve. */
@@ -561,6 +711,57 @@ static bool granted_past_taken(const uint8_t *marks, size_t n)
     return false;
 }
 
+/*
+ * Whether so many of the first free slots are firm for one who makes the mistake. Of the other slots those with the
+ * mark are taken for another owner's.
+ */
+static bool is_firm_with(enum mistake mistake, const struct input *input, uint64_t granted, uint8_t others)
+{
+    uint8_t slots[GRANT_SLOTS_MAX * SLOT_BYTES];
+    struct task task = {.id = 1, .w = (uint32_t)(input->marks_len * input->v)};
+    struct wheel wheel;
+    for (size_t i = 0; i < input->marks_len; i++) {
+        const bool own = input->marks[i] == 1 && granted > 0;
+        const uint32_t start = (uint32_t)(i * input->v);
+        granted -= own;
+        if (!own && input->marks[i] != others)
+            continue;
+        uint8_t *slot = slots + task.count++ * SLOT_BYTES;
+        put_number(slot, start, 4);
+        put_number(slot + 4, start + (uint32_t)input->v, 4);
+        put_number(slot + OWNER_AT, own, 2);
+        put_number(slot + LOSS_AT, (uint32_t)input->loss, 2);
+    }
+    wheel_with(&wheel, mistake, &task, slots, task.count * SLOT_BYTES);
+    return verdict_of(&wheel, &input->strips).firm;
+}
+
+/* Where the mistake leaves more ticks, one slot less would do; where it leaves fewer, as many wouldn't. */
+static void add_granted_loss(struct tally *tally, const struct input *input, uint64_t granted)
+{
+    enum { TAKEN, FREE };
+    const size_t n = input->marks_len;
+    note(tally, GRANT_WHOLE, granted < n && input->loss == input->v);
+    note(tally, GRANT_EVERY, granted == n && n > 1);
+    if (!is_cheap(&input->strips, n * input->v))
+        return;
+    note(tally, GRANT_LOSS, is_firm_with(NOTHING_LOST, input, granted - 1, TAKEN));
+    note(tally, GRANT_TOUCH, !is_firm_with(TOUCHING_LOSES, input, granted, TAKEN));
+    note(tally, GRANT_ROUND, !is_firm_with(ROUND_LOSES, input, granted, TAKEN));
+    note(tally, GRANT_FILL, !is_firm_with(FILLING_LOSES, input, granted, TAKEN));
+    note(tally, GRANT_LOST_BEFORE, !is_firm_with(LOST_BEFORE_LOSES, input, granted, TAKEN));
+    note(tally, GRANT_BEHIND_TAKEN, is_firm_with(OTHERS_TOUCH, input, granted - 1, TAKEN));
+    note(tally, GRANT_BEHIND_FREE, is_firm_with(OTHERS_TOUCH, input, granted - 1, FREE));
+}
+
+static void add_never_firm(struct tally *tally, const struct input *input, uint64_t free_slots)
+{
+    const bool looked_at = input->loss > 0 && is_cheap(&input->strips, input->marks_len * input->v);
+    note(tally, NEVER_FIRM_FREE, free_slots > 0);
+    note(tally, NEVER_FIRM_TAKEN, free_slots == 0);
+    note(tally, NEVER_FIRM_LOSS, looked_at && is_firm_with(NOTHING_LOST, input, free_slots, 0));
+}
+
 static void add_granted(struct tally *tally, const struct input *input, const struct expected *expected)
 {
     uint64_t granted = expected->result, free_slots = marks_of(input->marks, input->marks_len, 1, 1);
@@ -570,7 +771,20 @@ static void add_granted(struct tally *tally, const struct input *input, const st
     note(tally, GRANT_PAST_TAKEN, granted_past_taken(expected->marks, input->marks_len));
     note(tally, GRANT_64, input->marks_len == GRANT_SLOTS_MAX);
     note(tally, GRANT_16384, input->marks_len * input->v == WHEEL_MAX);
+    note(tally, GRANT_LOSS_NONE, granted == 0 && input->loss > 0);
+    if (granted > 0 && input->loss > 0)
+        add_granted_loss(tally, input, granted);
     note_edge(tally, input->marks_len * input->v, EDGE_GRANT, granted > 0);
+}
+
+/* The loss alone is bad. */
+static void add_bad_loss(struct tally *tally, const struct input *input)
+{
+    note(tally, GRANT_LONG_LOSS, input->loss == input->v + 1);
+    note(tally, GRANT_LOSS_2_32, input->loss == (uint64_t)UINT32_MAX + 1);
+    note(tally, WIDE_LOSS, wide(input->loss, 1, input->v));
+    note(tally, GRANT_LOSS_MOST, input->loss == UINT64_MAX);
+    note(tally, ORDER_12_6, refusal_of_strips(&input->strips) == 6);
 }
 
 static void add_bad_grid(struct tally *tally, const struct input *input)
@@ -586,6 +800,8 @@ static void add_bad_grid(struct tally *tally, const struct input *input)
                                 n * (input->v - 1) <= WHEEL_MAX);
     note(tally, GRANT_WRAP, n > 0 && n <= GRANT_SLOTS_MAX && !small_v && n * input->v <= WHEEL_MAX);
     note(tally, WIDE_V, n > 0 && n <= GRANT_SLOTS_MAX && wide(input->v, 1, WHEEL_MAX / n));
+    if (refusal_of_marks(input->marks, n, input->v, 0) == 0)
+        add_bad_loss(tally, input);
 }
 
 static void add_grant(struct tally *tally, const struct input *input, const struct expected *expected, uint32_t number)
@@ -596,8 +812,8 @@ static void add_grant(struct tally *tally, const struct input *input, const stru
         add_granted(tally, input, expected);
     if (number == 12)
         add_bad_grid(tally, input);
-    note(tally, NEVER_FIRM_FREE, number == 13 && free_slots > 0);
-    note(tally, NEVER_FIRM_TAKEN, number == 13 && free_slots == 0);
+    if (number == 13)
+        add_never_firm(tally, input, free_slots);
     note(tally, WIDE_E, number == 6 && wide(s->e, 1, NEED_MAX));
     note(tally, WIDE_H, number == 7 && wide(s->h, 1, PERIOD_MAX));
     note(tally, WIDE_D, number == 8 && wide(s->D, 1, s->h));
@@ -611,6 +827,7 @@ static void add_grant(struct tally *tally, const struct input *input, const stru
 struct sign {
     struct task task;
     uint32_t owned; /* where it is accepted */
+    bool loses;     /* ticks of its own, there */
     uint32_t number, worst;
     uint32_t margin; /* in two's complement */
 };
@@ -620,8 +837,12 @@ static struct sign sign_of(const struct input *input, const struct expected *exp
     const uint8_t *answer = expected->reply + i * ANSWER_BYTES;
     const uint32_t number = get_number(answer + 4, 2);
     struct task task = task_of_bytes(input->task + i * TASK_BYTES);
-    return (struct sign){task, number == 0 ? owned_slots(&task, input->slots) : 0, number, get_number(answer + 8, 4),
-                         get_number(answer + MARGIN_AT, 4)};
+    return (struct sign){.task = task,
+                         .owned = number == 0 ? owned_slots(&task, input->slots) : 0,
+                         .loses = number == 0 && loses_ticks(&task, input),
+                         .number = number,
+                         .worst = get_number(answer + 8, 4),
+                         .margin = get_number(answer + MARGIN_AT, 4)};
 }
 
 /* Arrays are taken in sizes; which of them would a wheel take? */
@@ -665,7 +886,7 @@ static bool share_board(const struct sign *a, const struct sign *b)
 static void add_boards(struct tally *tally, const struct sign *signs, size_t i)
 {
     const struct sign *sign = &signs[i];
-    bool two = false, drops = false, three = false, none = false;
+    bool two = false, drops = false, three = false, none = false, lose = false;
     uint32_t met = 0; /* an id with slots on the board */
     for (size_t j = 0; j < i; j++) {
         if (!share_board(sign, &signs[j]))
@@ -676,11 +897,13 @@ static void add_boards(struct tally *tally, const struct sign *signs, size_t i)
         met = both ? signs[j].task.id : met;
         drops |= both && sign->worst > 0 && signs[j].worst > 0;
         none |= (sign->owned > 0) != (signs[j].owned > 0);
+        lose |= sign->loses && signs[j].loses;
     }
     note(tally, SITE_BOARD, two);
     note(tally, SITE_BOARD_DROPS, drops);
     note(tally, SITE_BOARD_THREE, three);
     note(tally, SITE_BOARD_NONE, none);
+    note(tally, SITE_BOARD_LOSS, lose);
 }
 
 /* Record i beside each one before it. */
@@ -796,15 +1019,16 @@ static void add_strangers(struct tally *tally, const struct task *task, const st
     const size_t first = task->first, behind = first + task->count;
     const uint32_t w = task->w;
     if (first > 0) {
-        const uint32_t start = start_of(input, first - 1), end = end_of(input, first - 1);
-        const uint32_t spare = spare_of(input, first - 1);
-        note(tally, WHICH_BEFORE, start < end && end <= w && spare == 0 && task->count > 0 &&
+        const uint32_t end = end_of(input, first - 1), length = length_of(input, first - 1);
+        const uint32_t loss = loss_of(input, first - 1);
+        note(tally, WHICH_BEFORE, length > 0 && end <= w && loss <= length && task->count > 0 &&
                                       start_of(input, first) < end);
-        note(tally, WHICH_SPARE_BEFORE, spare != 0);
+        note(tally, WHICH_LOSS_BEFORE, length > 0 && loss > length);
     }
     if (behind < input->slots_len / SLOT_BYTES) {
-        note(tally, WHICH_BEHIND, start_of(input, behind) >= end_of(input, behind) || end_of(input, behind) > w);
-        note(tally, WHICH_SPARE_BEHIND, spare_of(input, behind) != 0);
+        const uint32_t length = length_of(input, behind);
+        note(tally, WHICH_BEHIND, length == 0 || end_of(input, behind) > w);
+        note(tally, WHICH_LOSS_BEHIND, length > 0 && loss_of(input, behind) > length);
     }
 }
 
@@ -836,6 +1060,7 @@ static void add_good_table(struct tally *tally, const struct task *task, const s
     note(tally, WHICH_TOUCHING, board.touching || board.touches_other);
     note(tally, WHICH_AT_WHEEL, last_end == task->w);
     note(tally, WHICH_LARGEST, last_end == WHEEL_MAX);
+    note(tally, WHICH_LOSS_WHOLE, board.whole_loss);
     add_bad_strips(tally, task);
     add_strangers(tally, task, input);
 }
@@ -899,19 +1124,23 @@ static void add_bad_slot(struct tally *tally, const struct task *task, const str
     size_t record = task->first + place;
     uint64_t start = start_of(input, record), end = end_of(input, record);
     uint64_t previous_end = place > 0 ? end_of(input, record - 1) : 0;
-    bool past = end > task->w, early = start < previous_end, spare = spare_of(input, record) != 0;
+    uint32_t loss = loss_of(input, record), length = length_of(input, record);
+    bool past = end > task->w, early = start < previous_end, lossy = loss > length;
     note(tally, WHICH_START_AT_END, number == 15 && start == end);
     note(tally, WHICH_START_OVER, number == 15 && start == end + 1);
     note(tally, WHICH_START_WIDE, number == 15 && start > INT32_MAX && !past);
     note(tally, WHICH_END_OVER, number == 16 && end == task->w + 1);
     note(tally, WHICH_END_WIDE, number == 16 && end > INT32_MAX);
     note(tally, WHICH_EARLY_BY_ONE, number == 17 && start + 1 == previous_end);
+    note(tally, WHICH_LOSS_OVER, number == 18 && loss == length + 1);
+    note(tally, WHICH_LOSS_LOW, number == 18 && loss % 256 <= length);
+    note(tally, WHICH_LOSS_TOUCHING, number == 18 && touches_own(task, input, record));
     note(tally, WHICH_15_16, number == 15 && past);
     note(tally, WHICH_15_17, number == 15 && early);
     note(tally, WHICH_16_17, number == 16 && early);
-    note(tally, WHICH_15_18, number == 15 && spare);
-    note(tally, WHICH_16_18, number == 16 && spare);
-    note(tally, WHICH_17_18, number == 17 && spare);
+    note(tally, WHICH_15_18, number == 15 && lossy);
+    note(tally, WHICH_16_18, number == 16 && lossy);
+    note(tally, WHICH_17_18, number == 17 && lossy);
     note(tally, WHICH_ONLY, task->count == 1);
     note(tally, WHICH_512TH, place + 1 == SLOTS_MAX);
     note(tally, WHICH_PAST_64, place >= GRANT_SLOTS_MAX && place + 1 < task->count);
@@ -943,7 +1172,7 @@ static void add_which(struct tally *tally, const struct input *input, uint64_t r
 
 /* The slots of a good board that are its task's, or those that aren't, in order. */
 struct part {
-    uint32_t n, place[SLOTS_MAX], owner[SLOTS_MAX], start[SLOTS_MAX], end[SLOTS_MAX];
+    uint32_t n, place[SLOTS_MAX], owner[SLOTS_MAX], start[SLOTS_MAX], end[SLOTS_MAX], loss[SLOTS_MAX];
 };
 
 static struct part part_of(const struct input *input, bool own)
@@ -957,15 +1186,21 @@ static struct part part_of(const struct input *input, bool own)
         part.place[part.n] = place;
         part.owner[part.n] = owner_at(input->slots, record);
         part.start[part.n] = start_of(input, record);
-        part.end[part.n++] = end_of(input, record);
+        part.end[part.n] = end_of(input, record);
+        part.loss[part.n++] = loss_of(input, record);
     }
     return part;
 }
 
-static bool same_slots(const struct part *one, const struct part *other)
+static bool same_ticks(const struct part *one, const struct part *other)
 {
     return one->n == other->n && memcmp(one->start, other->start, sizeof one->start) == 0 &&
            memcmp(one->end, other->end, sizeof one->end) == 0;
+}
+
+static bool same_losses(const struct part *one, const struct part *other)
+{
+    return memcmp(one->loss, other->loss, sizeof one->loss) == 0;
 }
 
 static int by_number(const void *one, const void *other)
@@ -989,7 +1224,7 @@ bool is_same_for_owner(const struct input *one, const struct input *other)
     if (which_of(&task, one) != 0 || which_of(&twin, other) != 0)
         return false;
     struct part own = part_of(one, true), twins = part_of(other, true);
-    return memcmp(one->task, other->task, FIRST_AT) == 0 && same_slots(&own, &twins);
+    return memcmp(one->task, other->task, FIRST_AT) == 0 && same_ticks(&own, &twins) && same_losses(&own, &twins);
 }
 
 /* How two boards differ that are the same for their owner. */
@@ -1002,7 +1237,8 @@ static void add_boards_differ(struct tally *tally, const struct input *one, cons
     note(tally, PAIR_NUMBER, !as_many);
     note(tally, PAIR_ORDER, same_owners(&others, &strangers) &&
                                 memcmp(others.owner, strangers.owner, sizeof others.owner) != 0);
-    note(tally, PAIR_TICKS, as_many && !same_slots(&others, &strangers));
+    note(tally, PAIR_TICKS, as_many && !same_ticks(&others, &strangers));
+    note(tally, PAIR_OTHERS_LOSS, same_ticks(&others, &strangers) && !same_losses(&others, &strangers));
     note(tally, PAIR_PLACE, memcmp(own.place, twins.place, sizeof own.place) != 0);
     note(tally, PAIR_FIRST, task.first != twin.first);
     note(tally, PAIR_COUNT, task.count != twin.count);
@@ -1012,17 +1248,31 @@ static void add_boards_differ(struct tally *tally, const struct input *one, cons
     note(tally, PAIR_MANY, own.n > GRANT_SLOTS_MAX && others.n > 0 && strangers.n > 0);
 }
 
+/* What would show at the offset, where both boards give the same supply. */
+static void add_pair_supply(struct tally *tally, const struct input *one, const struct input *other)
+{
+    struct task task = task_of_bytes(one->task), twin = task_of_bytes(other->task);
+    struct wheel wheel;
+    wheel_of_task(&wheel, &task, one->slots);
+    const uint64_t supply = supply_at(&wheel, task.D, 2, one->offset);
+    note(tally, PAIR_TELLS, supply_for(ALL_OWN, &task, one) != supply_for(ALL_OWN, &twin, other));
+    note(tally, PAIR_LOSS, supply_for(NOTHING_LOST, &task, one) > supply);
+    note(tally, PAIR_TOUCH, supply_for(TOUCHING_LOSES, &task, one) < supply);
+    note(tally, PAIR_TOUCH_OTHER, tells(&wheel, OTHERS_TOUCH, &task, one) != tells(&wheel, OTHERS_TOUCH, &twin, other));
+}
+
 void tally_add_pair(struct tally *tally, const struct input *one, const struct input *other, const uint8_t *answer,
                     uint32_t refused_at)
 {
-    struct task task = task_of_bytes(one->task), twin = task_of_bytes(other->task);
+    struct task task = task_of_bytes(one->task);
     const uint32_t number = get_number(answer + 4, 2), worst = get_number(answer + 8, 4);
     const bool firm = get_number(answer + 6, 2) == 1;
     add_boards_differ(tally, one, other);
     note(tally, PAIR_DROPS, number == 0 && worst > 0 && worst < task.k);
     note(tally, PAIR_FIRM, firm && worst > 0);
     note(tally, PAIR_NOT_FIRM, number == 0 && !firm);
-    note(tally, PAIR_TELLS, refused_at == 0 && supply_of_board(&task, one) != supply_of_board(&twin, other));
+    if (refused_at == 0)
+        add_pair_supply(tally, one, other);
     note(tally, PAIR_6, number == 6);
     note(tally, PAIR_7, number == 7);
     note(tally, PAIR_8, number == 8);

@@ -59,6 +59,22 @@ struct expected {
     X(SHARED_LEAST, "judged: the tick of the least margin would have more if every slot were the task's")              \
     X(OWNED_65, "judged: more than 64 slots of the task's, and strips drop")                                           \
     X(OWNED_512, "judged: 512 slots of the task's, and strips drop")                                                   \
+    X(LOSS_WORST, "judged: fewer strips would drop at worst if nothing were lost")                                     \
+    X(LOSS_FIRM, "judged: not firm, but firm if nothing were lost")                                                    \
+    X(LOSS_LEAST, "judged: the least margin would be larger if nothing were lost")                                     \
+    X(TOUCH_WORST, "judged: more strips would drop at worst if slots lost whatever they touch")                        \
+    X(TOUCH_FIRM, "judged: firm, but not if slots lost whatever they touch")                                           \
+    X(TOUCH_LEAST, "judged: the least margin would be smaller if slots lost whatever they touch")                      \
+    X(LOSS_ANSWER, "judged: another answer if nothing were lost")                                                      \
+    X(TOUCH_ANSWER, "judged: another answer if slots lost whatever they touch")                                        \
+    X(ROUND_ANSWER, "judged: another answer if a slot at 0 lost, though one of the task's ends at w")                  \
+    X(FILL_ANSWER, "judged: another answer if a slot that fills the wheel lost")                                       \
+    X(LOST_BEFORE_ANSWER, "judged: another answer if a slot lost behind one of the task's that gives no tick")         \
+    X(OTHERS_ANSWER, "judged: another answer if a slot lost nothing behind another owner's")                           \
+    X(OUTSIDE_ANSWER, "judged: another answer if a slot lost nothing behind one outside the board")                    \
+    X(LOW_BYTE_ANSWER, "judged: another answer by the lower bytes of the losses")                                      \
+    X(HIGH_BYTE_ANSWER, "judged: another answer by the upper bytes of the losses")                                     \
+    X(LOSS_MANY, "judged: ticks are lost, more than 64 slots of the task's, and some strips drop, not all")            \
     X(QUICK_M_0, "verdict: firm with m 0, and all strips drop, but not from every offset")                             \
     X(QUICK_ALL_FIRM, "verdict: firm with m 0, and all strips drop from every offset")                                 \
     X(QUICK_ALL_NOT, "verdict: not firm, and all strips drop from every offset")                                       \
@@ -87,6 +103,8 @@ struct expected {
     X(QUICK_DIVISOR_NOT, "verdict: not firm by one strip, a common divisor of w and h above 1 and below w")            \
     X(QUICK_TURNS_FIRM, "verdict: firm, as many drop as may, h a multiple of w, not every tick late")                  \
     X(QUICK_TURNS_NOT, "verdict: not firm by one strip, h a multiple of w, not every tick late")                       \
+    X(QUICK_LOSS_FIRM, "verdict: firm, as many drop as may, and ticks are lost")                                       \
+    X(QUICK_LOSS_NOT, "verdict: not firm by one strip, and ticks are lost")                                            \
     X(QUICK_BELOW_FIRM, "verdict: firm, k x late ticks below (k - m) x w, by w at most")                               \
     X(QUICK_BELOW_NOT, "verdict: not firm, k x late ticks below (k - m) x w, by w at most")                            \
     X(QUICK_EQUAL_FIRM, "verdict: firm, k x late ticks equal to (k - m) x w, not all late")                            \
@@ -105,6 +123,15 @@ struct expected {
     X(TOUCHING_OTHER, "accepted: a slot of the task's touches another owner's")                                        \
     X(FULL_WHEEL, "accepted: the task's slots fill the wheel")                                                         \
     X(FULL_BOARD, "accepted: the slots fill the wheel, the task's alone don't")                                        \
+    X(LOSS_WHOLE, "accepted: a slot of the task's that touches none of its own loses all its ticks")                   \
+    X(LOSS_ALL_BUT_ONE, "accepted: a slot of the task's, two ticks or longer, loses all but one")                      \
+    X(LOSS_EVERY, "accepted: the task has slots, and all their ticks are lost")                                        \
+    X(LOSS_WHOLE_TOUCHING, "accepted: a loss as long as its slot, which touches one of the task's")                    \
+    X(LOSS_OTHERS, "accepted: another owner's slot has a loss, and the task's have none")                              \
+    X(LOSS_OTHERS_WHOLE, "accepted: another owner's loss as long as its slot")                                         \
+    X(LOSS_256, "accepted: a slot of the task's loses a whole number of 256 ticks")                                    \
+    X(LOSS_ROUND_BELOW, "accepted: a slot at 0 loses ticks, and the last slot, the task's, ends one below w")          \
+    X(LOSS_ROUND_OTHER, "accepted: a slot at 0 loses ticks, and another owner's ends at w")                            \
     X(RECORDS_64, "accepted: 64 slot records")                                                                         \
     X(RECORDS_65, "accepted: 65 slot records")                                                                         \
     X(RECORDS_511, "accepted: 511 slot records")                                                                       \
@@ -154,12 +181,17 @@ struct expected {
     X(COUNT_WIDE, "refused 14: count 65,535 with that many records")                                                   \
     X(ORDER_4_6, "refused 4 before 6: w and e are both bad")                                                           \
     X(ORDER_14_6, "refused 14 to 17 before 6: the slots and e are both bad")                                           \
-    X(ORDER_18_6, "refused 18 before 6: a spare byte and e are both bad")                                              \
+    X(ORDER_18_6, "refused 18 before 6: a loss and e are both bad")                                                    \
     X(EARLY_OWN, "refused 17: a slot of the task's against another owner's, though not against the task's before it")  \
     X(EARLY_OTHER, "refused 17: another owner's slot against one of the task's")                                       \
     X(EARLY_THIRD, "refused 17: another owner's slot against a third owner's")                                         \
-    X(SPARE_FIRST, "refused 18: the first spare byte alone")                                                           \
-    X(SPARE_SECOND, "refused 18: the second spare byte alone")                                                         \
+    X(LOSS_OVER, "refused 18: a loss one above the length")                                                            \
+    X(LOSS_SHORT, "refused 18: a loss below 256")                                                                      \
+    X(LOSS_WHOLE_BYTES, "refused 18: a loss of a whole number of 256s")                                                \
+    X(LOSS_LOW, "refused 18: a loss whose lower byte would do, and isn't zero")                                        \
+    X(LOSS_WIDE, "refused 18: a loss of 65,535")                                                                       \
+    X(LOSS_TOUCHING, "refused 18: the slot touches one of its owner's")                                                \
+    X(LOSS_FILLING, "refused 18: the slot fills the wheel")                                                            \
     X(BAD_OTHERS, "refused 15 to 18: every slot of the task's would do")                                               \
     X(PAST_NEED, "refused 6: e 1,000,001")                                                                             \
     X(PAST_PERIOD, "refused 7: h 1,000,001")                                                                           \
@@ -176,6 +208,7 @@ struct expected {
     X(SHARED_COUNT, "counted: some strips drop, not all, on a board with others' slots beside the task's")             \
     X(COUNTED_65, "counted: more than 64 slots of the task's, and strips drop")                                        \
     X(COUNTED_512, "counted: 512 slots of the task's, and strips drop")                                                \
+    X(LOSS_COUNT, "counted: some strips drop, not all, and ticks are lost")                                            \
     X(MARGIN_BELOW_EVEN, "margin: below zero at a whole tick")                                                         \
     X(MARGIN_ZERO_EVEN, "margin: zero at a whole tick")                                                                \
     X(MARGIN_ABOVE_EVEN, "margin: above zero at a whole tick")                                                         \
@@ -193,6 +226,7 @@ struct expected {
     X(SUPPLIED_HALF, "supply: an odd number of half ticks")                                                            \
     X(SUPPLIED_WIDE, "supply: above 65,535 half ticks")                                                                \
     X(SHARED_SUPPLY, "supply: it would be more if every slot were the task's")                                         \
+    LOST_SUPPLIES(X)                                                                                                   \
     X(PAST_OFFSET, "refused 11: offset 2w")                                                                            \
     X(WIDE_OFFSET, "refused 11: an offset above 2^32 whose low half would do")                                         \
     X(GRANT_NONE, "granted: no slots")                                                                                 \
@@ -201,9 +235,21 @@ struct expected {
     X(GRANT_PAST_TAKEN, "granted: a taken slot before a granted one")                                                  \
     X(GRANT_64, "granted: N 64")                                                                                       \
     X(GRANT_16384, "granted: N * v 16,384")                                                                            \
+    X(GRANT_LOSS, "granted: fewer slots if nothing were lost")                                                         \
+    X(GRANT_TOUCH, "granted: more slots, or none do, if slots lost whatever is granted before them")                   \
+    X(GRANT_ROUND, "granted: more slots, or none do, if slot 0 lost behind slot N - 1")                                \
+    X(GRANT_FILL, "granted: N 1, and none does if the only slot lost")                                                 \
+    X(GRANT_LOST_BEFORE, "granted: more slots, or none do, if slots lost behind one that gives no tick")               \
+    X(GRANT_BEHIND_TAKEN, "granted: fewer slots if one lost nothing behind a taken one")                               \
+    X(GRANT_BEHIND_FREE, "granted: fewer slots if slot 0 lost nothing behind a free one that isn't granted")           \
+    X(GRANT_WHOLE, "granted: some of N slots, loss v, and some ticks are left")                                        \
+    X(GRANT_EVERY, "granted: all N slots, two or more, with a loss")                                                   \
+    X(GRANT_LOSS_NONE, "granted: no slots, with a loss")                                                               \
     X(NEVER_FIRM_FREE, "refused 13: with free slots")                                                                  \
     X(NEVER_FIRM_TAKEN, "refused 13: with no free slot")                                                               \
     X(NEVER_FIRM_SETS, "refused 13: every set of two or more free slots tried")                                        \
+    X(NEVER_FIRM_LOSS, "refused 13: all free slots would be firm if nothing were lost")                                \
+    X(NEVER_FIRM_SETS_LOSS, "refused 13: every set of two or more free slots tried, with a loss")                      \
     X(MARKS_EMPTY, "refused 12: no marks")                                                                             \
     X(MARKS_65, "refused 12: N 65")                                                                                    \
     X(MARK_2, "refused 12: a mark is 2")                                                                               \
@@ -212,6 +258,11 @@ struct expected {
     X(GRANT_LONG, "refused 12: N * v just above 16,384")                                                               \
     X(GRANT_WRAP, "refused 12: N * v fits only after it wrapped at 2^64")                                              \
     X(WIDE_V, "refused 12: v above 2^32 whose low half would do")                                                      \
+    X(GRANT_LONG_LOSS, "refused 12: a loss of v + 1")                                                                  \
+    X(GRANT_LOSS_2_32, "refused 12: a loss of 2^32")                                                                   \
+    X(WIDE_LOSS, "refused 12: a loss above 2^32 whose low half would do, and isn't zero")                              \
+    X(GRANT_LOSS_MOST, "refused 12: a loss of 2^64 - 1")                                                               \
+    X(ORDER_12_6, "refused 12 before 6: the loss alone is bad, and so is e")                                           \
     X(WIDE_E, "refused 6: e above 2^32 whose low half would do")                                                       \
     X(WIDE_H, "refused 7: h above 2^32 whose low half would do")                                                       \
     X(WIDE_D, "refused 8: d above 2^32 whose low half would do")                                                       \
@@ -240,6 +291,7 @@ struct expected {
     X(SITE_BOARD_DROPS, "site: the same, and strips drop in both")                                                     \
     X(SITE_BOARD_THREE, "site: three accepted tasks on one board, each with slots of its own there")                   \
     X(SITE_BOARD_NONE, "site: an accepted task without slots of its own on the board of one that has some")            \
+    X(SITE_BOARD_LOSS, "site: two accepted tasks on one board, and each loses ticks of its own there")                 \
     X(SITE_MARGINS, "site: least margins below zero, zero and above zero")                                             \
     X(SITE_MARGIN_NEXT, "site: a refused record right behind a least margin other than zero")                          \
     X(SITE_LONG_REPLY, "site: a reply one byte longer")                                                                \
@@ -267,8 +319,9 @@ struct expected {
     X(WHICH_LARGEST, "which slot, good: an end at w 16,384")                                                           \
     X(WHICH_BEFORE, "which slot, good: the record before the board would fit and clash with its first")                \
     X(WHICH_BEHIND, "which slot, good: a bad record behind the board")                                                 \
-    X(WHICH_SPARE_BEFORE, "which slot, good: a spare byte of the record before the board isn't zero")                  \
-    X(WHICH_SPARE_BEHIND, "which slot, good: a spare byte of the record behind the board isn't zero")                  \
+    X(WHICH_LOSS_WHOLE, "which slot, good: a loss as long as its slot")                                                \
+    X(WHICH_LOSS_BEFORE, "which slot, good: the record before the board has ticks, and a loss of more")                \
+    X(WHICH_LOSS_BEHIND, "which slot, good: the record behind the board has ticks, and a loss of more")                \
     X(WHICH_BAD_NEED, "which slot, good: e is bad")                                                                    \
     X(WHICH_BAD_PERIOD, "which slot, good: h is bad")                                                                  \
     X(WHICH_BAD_DEADLINE, "which slot, good: D is bad")                                                                \
@@ -307,6 +360,9 @@ struct expected {
     X(WHICH_END_OVER, "which slot refused 16: an end at w + 1")                                                        \
     X(WHICH_END_WIDE, "which slot refused 16: an end of 2^31 or more")                                                 \
     X(WHICH_EARLY_BY_ONE, "which slot refused 17: a start one below the end before it")                                \
+    X(WHICH_LOSS_OVER, "which slot refused 18: a loss one above the length")                                           \
+    X(WHICH_LOSS_LOW, "which slot refused 18: a loss whose lower byte would do")                                       \
+    X(WHICH_LOSS_TOUCHING, "which slot refused 18: the slot touches one of its owner's")                               \
     X(WHICH_15_16, "which slot refused 15 before 16: both of one slot")                                                \
     X(WHICH_15_17, "which slot refused 15 before 17: both of one slot")                                                \
     X(WHICH_16_17, "which slot refused 16 before 17: both of one slot")                                                \
@@ -335,6 +391,10 @@ struct expected {
     X(PAIR_FIRM, "pair: firm, and strips drop")                                                                        \
     X(PAIR_NOT_FIRM, "pair: not firm")                                                                                 \
     X(PAIR_TELLS, "pair: the two would have other supplies at the offset if every slot were the task's")               \
+    X(PAIR_LOSS, "pair: the supply at the offset would be more if nothing were lost")                                  \
+    X(PAIR_TOUCH, "pair: the supply at the offset would be less if slots lost whatever they touch")                    \
+    X(PAIR_TOUCH_OTHER, "pair: a slot of the task's that loses ticks touches another's on one board alone")            \
+    X(PAIR_OTHERS_LOSS, "pair: others have the same ticks on both boards, with other losses")                          \
     X(PAIR_6, "pair refused 6 alike")                                                                                  \
     X(PAIR_7, "pair refused 7 alike")                                                                                  \
     X(PAIR_8, "pair refused 8 alike")                                                                                  \

@@ -6,9 +6,11 @@
  *
  * A processor turns a wheel of w ticks. Its slots stand in one table for the
  * whole board, each with its owner, and a task has the slots whose owner is its
- * id. A strip arrives every h ticks and needs e ticks of the task's slot time
- * within D ticks of its arrival; with less it is dropped. The judge answers,
- * exactly and for every offset of the first strip, fractions of a tick included:
+ * id. When the processor changes hands, the first ticks of a slot may go to the
+ * switch. A strip arrives every h ticks and needs e ticks of what the task's
+ * slots have left within D ticks of its arrival; with less it is dropped. The
+ * judge answers, exactly and for every offset of the first strip, fractions of a
+ * tick included:
  *
  *   fiddlequill_judge        how many of k strips drop at worst, from which
  *                            offset, whether at least m of k are always
@@ -18,7 +20,7 @@
  *   fiddlequill_quick        just whether it is firm, yes or no
  *   fiddlequill_which_slot   which slot of a task's board is bad, and why
  *   fiddlequill_count        how many of k strips drop from one given offset
- *   fiddlequill_supply       the slot time that a strip at one given offset gets
+ *   fiddlequill_supply       the usable time that a strip at one given offset gets
  *   fiddlequill_margin       that time minus the strip's need, signed
  *   fiddlequill_grant        how many free slots, taken in number order, make
  *                            a task firm; it marks them
@@ -51,6 +53,11 @@ extern "C" {
 #else
 #define FIDDLEQUILL_CHECK
 #endif
+
+/* ---- version: a new major number means that callers must be looked through ---- */
+
+#define FIDDLEQUILL_VERSION "5.0.0"
+#define FIDDLEQUILL_VERSION_MAJOR 5
 
 /* ---- limits: each one is the largest value that is accepted ---- */
 
@@ -86,13 +93,13 @@ enum fiddlequill_refusal {
     FIDDLEQUILL_BAD_STRIPS = 9,       /* k isn't from 1 to 1,024 */
     FIDDLEQUILL_BAD_PAINTED = 10,     /* m isn't from 0 to k */
     FIDDLEQUILL_BEYOND_WHEEL = 11,    /* the offset isn't below 2w half ticks */
-    FIDDLEQUILL_BAD_GRANT = 12,       /* N, v, N * v or a mark is bad (see fiddlequill_grant) */
+    FIDDLEQUILL_BAD_GRANT = 12,       /* N, v, N * v, the loss or a mark is bad (see fiddlequill_grant) */
     FIDDLEQUILL_NEVER_FIRM = 13,      /* no set of the free slots makes the task firm */
     FIDDLEQUILL_MANY_SLOTS = 14,      /* more than 512 slot records */
     FIDDLEQUILL_EMPTY_SLOT = 15,      /* a slot's start isn't below its end */
     FIDDLEQUILL_SLOT_PAST_WHEEL = 16, /* a slot's end is above w */
     FIDDLEQUILL_EARLY_SLOT = 17,      /* a slot's start is below the end of the slot before it, whoever owns that */
-    FIDDLEQUILL_SPARE_USED = 18,      /* a slot's spare bytes aren't zero */
+    FIDDLEQUILL_LONG_LOSS = 18,       /* a slot's loss is above its length, end - start */
     FIDDLEQUILL_BAD_ID = 19           /* the task's id isn't from 0 to 65,535 */
 };
 
@@ -117,17 +124,22 @@ enum fiddlequill_refusal {
  *        0      4  start   first tick of the slot
  *        4      4  end     tick after its last one
  *        8      2  owner   id of the task that has the slot
- *       10      2          spare: zero
+ *       10      2  loss    ticks at its start that go to the switch, 0 to
+ *                          end - start
  *   A slot fits when start < end, end <= w, start is not below the end of the
- *   slot record before it on the same board, and the spare bytes are zero. So a
+ *   slot record before it on the same board, and loss <= end - start. So a
  *   board's slots stand in the order of time, whoever owns them. Slots may
  *   touch, and a task without slots is a good one. Every record of the board
  *   must fit: a task is refused for another owner's bad slot, too. Records
  *   outside first .. first + count - 1 aren't looked at.
- *   A task gets the ticks of its own slots and of no other. Two good boards with
- *   the same wheel and the same slots for a task's id give that task the same
- *   results in every call, byte for byte, whatever slots others have there and
- *   wherever first and count point.
+ *   A task gets the ticks of its own slots and of no other, from start + loss to
+ *   end. But where no switch is, nothing is lost: a slot that starts where a slot
+ *   of the same owner ends, also round the end of the wheel (end w, start 0),
+ *   gives all its ticks from start on, whatever its loss, and even where the slot
+ *   before it loses all of its own. So does a slot that fills the wheel.
+ *   Two good boards with the same wheel and the same slots for a task's id give
+ *   that task the same results in every call, byte for byte, whatever slots
+ *   others have there and wherever first and count point.
  *
  * Answer record, 20 bytes
  *        0      4  id      as in the task
@@ -298,8 +310,9 @@ uint64_t fiddlequill_count(const uint8_t *task, size_t task_len,
                            uint64_t offset);
 
 /*
- * Gives the supply of a strip that arrives at `offset`, in half ticks: the slot
- * time within D ticks of its arrival, also counted in half ticks, 0 to 2D.
+ * Gives the supply of a strip that arrives at `offset`, in half ticks: the usable
+ * time within D ticks of its arrival, also counted in half ticks, 0 to 2D. Ticks
+ * that go to the switch aren't usable.
  * Packed with the refusal number like fiddlequill_count's result.
  *
  * Refusals, and when success is certain, as for fiddlequill_count; each refusal
@@ -341,12 +354,19 @@ uint64_t fiddlequill_margin(const uint8_t *task, size_t task_len,
  *   marks, marks_len   one byte for each slot, N = marks_len; slot i lasts from
  *                      tick i * v to (i + 1) * v; 0 is taken, 1 is free
  *   v                  ticks in a slot; the wheel has w = N * v ticks
+ *   loss               ticks at the start of a granted slot that go to the
+ *                      switch, 0 to v: one number for all slots; a granted slot
+ *                      behind one that is granted now, too, loses nothing (slot
+ *                      0 is behind slot N - 1, and the only slot of a wheel
+ *                      behind itself); a taken slot before it doesn't help
  *   e, d, h, m, k      the task, with the ranges of the task record's fields
- *                      e, D, h, m, k; all 64 bits of each are looked at
+ *                      e, D, h, m, k
+ * All 64 bits of each number are looked at.
  *
  * Refusals in checking order; each comes with j = 0 and moves no mark:
  *   12   N isn't from 1 to 64, v is 0, the wheel of N * v ticks is longer than
- *        16,384, or some mark isn't 0 or 1 (a 2 left over must be settled first)
+ *        16,384, loss is above v, or some mark isn't 0 or 1 (a 2 left over must
+ *        be settled first)
  *   6, 7, 8, 9, 10   as for a task record
  *   13   no set of free slots, in number order or not, makes the task firm
  * On success the marks of the j granted slots become 2.
@@ -357,7 +377,7 @@ uint64_t fiddlequill_margin(const uint8_t *task, size_t task_len,
  */
 FIDDLEQUILL_CHECK
 uint64_t fiddlequill_grant(uint8_t *marks, size_t marks_len, uint64_t v,
-                           uint64_t e, uint64_t d, uint64_t h,
+                           uint64_t loss, uint64_t e, uint64_t d, uint64_t h,
                            uint64_t m, uint64_t k);
 
 /* ---- helpers ---- */
@@ -386,7 +406,7 @@ static inline int32_t fiddlequill_signed(uint32_t bits)
 /* Whether a refusal is about one slot: 1 for 15 to 18, else 0. */
 static inline int fiddlequill_about_slot(uint32_t number)
 {
-    return number >= FIDDLEQUILL_EMPTY_SLOT && number <= FIDDLEQUILL_SPARE_USED;
+    return number >= FIDDLEQUILL_EMPTY_SLOT && number <= FIDDLEQUILL_LONG_LOSS;
 }
 
 /* One line on a refusal number, for people. Never NULL. */
@@ -416,7 +436,8 @@ static inline const char *fiddlequill_meaning(uint32_t number)
     case FIDDLEQUILL_BEYOND_WHEEL:
         return "the offset isn't below 2w half ticks";
     case FIDDLEQUILL_BAD_GRANT:
-        return "the grant has no slots or over 64, a wheel of 0 or over 16,384 ticks, or a mark other than 0 and 1";
+        return "the grant has no slots or over 64, a wheel of 0 or over 16,384 ticks, a loss above v, or a mark other "
+               "than 0 and 1";
     case FIDDLEQUILL_NEVER_FIRM:
         return "no choice of the free slots makes the task firm";
     case FIDDLEQUILL_MANY_SLOTS:
@@ -427,8 +448,8 @@ static inline const char *fiddlequill_meaning(uint32_t number)
         return "a slot whose end is above the wheel w";
     case FIDDLEQUILL_EARLY_SLOT:
         return "a slot whose start is below the end of the slot before it";
-    case FIDDLEQUILL_SPARE_USED:
-        return "a slot whose two spare bytes aren't zero";
+    case FIDDLEQUILL_LONG_LOSS:
+        return "a slot whose loss is above its length";
     case FIDDLEQUILL_BAD_ID:
         return "the id isn't from 0 to 65,535";
     default:

@@ -43,11 +43,11 @@ fn four(x: u32) -> [u8; 4] {
 }
 
 // A slot record's numbers, in its order.
-pub fn record(start: u32, end: u32, owner: u32, spare: u32) -> [u8; Slot::BYTES] {
+pub fn record(start: u32, end: u32, owner: u32, loss: u32) -> [u8; Slot::BYTES] {
     let s = four(start);
     let e = four(end);
     let o = four(owner);
-    let p = four(spare);
+    let l = four(loss);
     [
         s[0],
         s[1],
@@ -59,14 +59,19 @@ pub fn record(start: u32, end: u32, owner: u32, spare: u32) -> [u8; Slot::BYTES]
         e[3],
         o[0],
         o[1],
-        p[0],
-        p[1],
+        l[0],
+        l[1],
     ]
 }
 
 // A slot of T's: its owner is T's id.
+pub fn late(start: u32, end: u32, loss: u32) -> [u8; Slot::BYTES] {
+    record(start, end, 2, loss)
+}
+
+// One that loses nothing.
 pub fn slot(start: u32, end: u32) -> [u8; Slot::BYTES] {
-    record(start, end, 2, 0)
+    late(start, end, 0)
 }
 
 pub fn two_slots(a: [u8; Slot::BYTES], b: [u8; Slot::BYTES]) -> [u8; 2 * Slot::BYTES] {

@@ -4,6 +4,7 @@ use crate::print;
 // What a grant is asked for, beside the marks.
 pub struct Wish {
     pub v: u64,
+    pub loss: u64,
     pub e: u64,
     pub d: u64,
     pub h: u64,
@@ -11,10 +12,11 @@ pub struct Wish {
     pub k: u64,
 }
 
-// The paper's grant: v 2, D 5, h 14, m 1, k 2.
+// The paper's grant: v 2, no loss, D 5, h 14, m 1, k 2.
 fn paper(e: u64) -> Wish {
     Wish {
         v: 2,
+        loss: 0,
         e,
         d: 5,
         h: 14,
@@ -40,7 +42,7 @@ fn grant(name: &[u8], marks: &mut [u8], w: Wish) {
     print::text(name);
     print::text(b", marks ");
     marks_are(marks);
-    let r = grants::grant(marks, w.v, w.e, w.d, w.h, w.m, w.k);
+    let r = grants::grant(marks, w.v, w.loss, w.e, w.d, w.h, w.m, w.k);
     print::text(b": refusal ");
     print::number(r.number as u64);
     print::text(b", slots ");
@@ -73,6 +75,43 @@ fn values() {
     marked(b"e 1 with no slot free", [0, 0, 0, 0, 0], paper(1));
 }
 
+// The paper's grant with a loss.
+fn late(e: u64, loss: u64) -> Wish {
+    let mut w = paper(e);
+    w.loss = loss;
+    w
+}
+
+// P20 to P22, and slots that touch one another or only a taken one; where all are granted, or the only one, nothing is lost.
+fn losses() {
+    free(b"P20, e 4, loss 2", late(4, 2));
+    free(b"P21, e 3, loss 2", late(3, 2));
+    marked(
+        b"P22, e 3, loss 2 with slot 4 taken",
+        [1, 1, 1, 1, 0],
+        late(3, 2),
+    );
+    marked(
+        b"e 1, loss 2 with slots 1 and 3 free",
+        [0, 1, 0, 1, 0],
+        late(1, 2),
+    );
+    marked(
+        b"e 1, loss 1 with slots 1 and 3 free",
+        [0, 1, 0, 1, 0],
+        late(1, 1),
+    );
+    marked(
+        b"e 2, loss 1 with slots 0, 2 and 4 free",
+        [1, 0, 1, 0, 1],
+        late(2, 1),
+    );
+    let mut one = [1u8];
+    grant(b"e 2, loss 2", &mut one, late(2, 2));
+    free(b"e 4, loss 3", late(4, 3));
+    free(b"e 0, loss 4294967296", late(0, 4294967296));
+}
+
 // A case for each refusal of the numbers; every mark stays.
 fn refusals() {
     let mut w = paper(4);
@@ -103,5 +142,6 @@ fn refusals() {
 
 pub fn all() {
     values();
+    losses();
     refusals();
 }

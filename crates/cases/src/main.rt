@@ -5,6 +5,7 @@ mod bounds;
 mod build;
 mod gifts;
 mod lookups;
+mod losses;
 mod print;
 mod refusals;
 mod troubles;
@@ -16,6 +17,7 @@ fn main() {
     refusals::all();
     troubles::all();
     boards::all();
+    losses::all();
     gifts::all();
     lookups::all();
 }

@@ -20,7 +20,7 @@ fn task_sizes() {
     ask::judge_bytes(b"33 zeros", &long, b"");
 }
 
-// T's record one byte short, and without owner and spare bytes.
+// T's record one byte short, and without owner and loss.
 fn slot_sizes() {
     let short = b"\0\0\0\0\x08\0\0\0\x02\0\0";
     ask::judge(b"T with 11 bytes of slots", build::t(), short);

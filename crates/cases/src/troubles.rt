@@ -29,24 +29,13 @@ fn pairs() {
     pair(b"T with (9,11) and (4,4)", 9, 11, 4, 4);
 }
 
-// Either spare byte, and 17 before 18.
-fn spares() {
+// A loss above the slot's length, by either byte, also where the slot touches; 17 comes before 18.
+fn losses() {
     let good = build::slot(0, 4);
-    two(
-        b"T with spare bytes 1 and 0",
-        good,
-        build::record(4, 8, 2, 1),
-    );
-    two(
-        b"T with spare bytes 0 and 1",
-        good,
-        build::record(4, 8, 2, 256),
-    );
-    two(
-        b"T with (3,8) and spare bytes 1 and 0",
-        good,
-        build::record(3, 8, 2, 1),
-    );
+    two(b"T with (4,8), loss 4", good, build::late(4, 8, 4));
+    two(b"T with (4,8), loss 5", good, build::late(4, 8, 5));
+    two(b"T with (4,8), loss 256", good, build::late(4, 8, 256));
+    two(b"T with (3,8), loss 6", good, build::late(3, 8, 6));
 }
 
 // Another owner's slot is tested, too, and is the slot before T's.
@@ -68,8 +57,8 @@ fn others() {
         build::slot(3, 8),
     );
     two(
-        b"T behind another's spare byte",
-        build::record(0, 4, 3, 1),
+        b"T behind another's (0,4), loss 5",
+        build::record(0, 4, 3, 5),
         build::slot(4, 8),
     );
 }
@@ -83,7 +72,7 @@ fn too_many() {
 
 pub fn all() {
     pairs();
-    spares();
+    losses();
     others();
     too_many();
 }

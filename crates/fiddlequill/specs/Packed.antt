@@ -29,9 +29,9 @@ pub record PackedQuick (task slots : List ℕ) (r : ℕ) : Type 0 where
   pub result : r ≡ packed number (bit firm)
   pub call : Quick task slots number firm
 
-pub record PackedGrant (l : List ℕ) (v e D h m k r : ℕ) (after : List ℕ) : Type 0 where
+pub record PackedGrant (l : List ℕ) (v loss e D h m k r : ℕ) (after : List ℕ) : Type 0 where
   pub number : ℕ
   pub slots : ℕ
   pub small : slots < 4294967296
   pub result : r ≡ packed number slots
-  pub call : GrantCall l v e D h m k number slots after
+  pub call : GrantCall l v loss e D h m k number slots after

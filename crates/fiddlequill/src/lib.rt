@@ -88,14 +88,15 @@ pub extern "C" fn fiddlequill_quick(task: &[u8], slots: &[u8]) -> u64
 pub extern "C" fn fiddlequill_grant(
     marks: &mut [u8],
     v: u64,
+    loss: u64,
     e: u64,
     d: u64,
     h: u64,
     m: u64,
     k: u64,
 ) -> u64
-    ensures { λ r. ⌜ PackedGrant (now (marks .entry)) v e d h m k r (now (marks .exit)) ⌝ }
+    ensures { λ r. ⌜ PackedGrant (now (marks .entry)) v loss e d h m k r (now (marks .exit)) ⌝ }
 {
-    let granted = grants::grant(marks, v, e, d, h, m, k);
+    let granted = grants::grant(marks, v, loss, e, d, h, m, k);
     pack(granted.number, granted.slots)
 }

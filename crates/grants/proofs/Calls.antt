@@ -10,7 +10,7 @@ use lib.ListN.{length, getD}
 use Rattle.rules.specs.Sums.{any}
 use Rattle.rules.specs.Grant.{Granted, NoChoice}
 use Rattle.limits.specs.Refusal.{_when_, _otherwise_}
-use Rattle.limits.specs.Limits.{gridRefusal, taskRefusal, madeTask, madeGrid, taskOf, asked, Within}
+use Rattle.limits.specs.Limits.{gridRefusal, taskRefusal, madeTask, madeGrid, taskOf, gridOf, asked, Within}
 use Rattle.limits.specs.declared.Task.{Task}
 use Rattle.limits.specs.declared.Grid.{Grid}
 use Rattle.limits.specs.declared.TaskMade.the-variants as taskMade
@@ -34,71 +34,71 @@ low-otherwise (suc a) b p q = p
 
 -- ---- what is checked, one law for each way out
 
-module _ (l : List ℕ) (v e D h m k : ℕ) where
-  pub check-grid : (n : ℕ) → madeGrid (length l) v ≡ gridMade.Refused n → Refused n ≡ checked l v e D h m k
+module _ (l : List ℕ) (v loss e D h m k : ℕ) where
+  pub check-grid : (n : ℕ) → madeGrid (length l) v loss ≡ gridMade.Refused n → Refused n ≡ checked l v loss e D h m k
   unfolding checked grantRefusal
   check-grid n q =
-      let p = grid-refused _ _ n q in
+      let p = grid-refused _ _ _ n q in
       refused-is Refused _ (at-first _ _ _ (p .0) (p .1)) (p .1)
 
-  module _ (g : Grid) (made : madeGrid (length l) v ≡ gridMade.Made g) where
-    pub check-marks : any (λ i. ltb 1 (getD l i 0)) (length l) ≡ true → Refused 12 ≡ checked l v e D h m k
+  module _ (g : Grid) (made : madeGrid (length l) v loss ≡ gridMade.Made g) where
+    pub check-marks : any (λ i. ltb 1 (getD l i 0)) (length l) ≡ true → Refused 12 ≡ checked l v loss e D h m k
     unfolding checked grantRefusal badMark
     check-marks bad =
         let one : ¬ (_≡_ {A = ℕ} 12 0) = λ z. omega arith in
         refused-is Refused _
-        (at-next _ _ _ (grid-made _ _ g made .0) (at-first _ _ _ (sym (when-true 12 _ bad)) one)) one
+        (at-next _ _ _ (grid-made _ _ _ g made .0) (at-first _ _ _ (sym (when-true 12 _ bad)) one)) one
 
     module _ (good : any (λ i. ltb 1 (getD l i 0)) (length l) ≡ false) where
-      pub check-task : (n : ℕ) → madeTask e D h m k ≡ taskMade.Refused n → Refused n ≡ checked l v e D h m k
+      pub check-task : (n : ℕ) → madeTask e D h m k ≡ taskMade.Refused n → Refused n ≡ checked l v loss e D h m k
       unfolding checked grantRefusal badMark
       check-task n q =
           let p = task-refused _ _ _ _ _ n q in
           refused-is Refused _
-          (at-next _ _ _ (grid-made _ _ g made .0) (at-next _ _ _ (when-false 12 _ good) (p .0))) (p .1)
+          (at-next _ _ _ (grid-made _ _ _ g made .0) (at-next _ _ _ (when-false 12 _ good) (p .0))) (p .1)
 
-      pub check-good : (t : Task) → madeTask e D h m k ≡ taskMade.Made t → Good g t ≡ checked l v e D h m k
+      pub check-good : (t : Task) → madeTask e D h m k ≡ taskMade.Made t → Good g t ≡ checked l v loss e D h m k
       unfolding checked grantRefusal badMark
       check-good t q =
-          let b = grid-made _ _ g made in
+          let b = grid-made _ _ _ g made in
           let p = task-made _ _ _ _ _ t q in
           ap₂ Good (b .1) (p .1)
           ∙ made-is _ _ (at-next _ _ _ (b .0) (at-next _ _ _ (when-false 12 _ good) (sym (p .0)))) refl
 
   -- And back: what goes on had no refusal and is what was asked for; a refused call has its number.
   pub record Asked (g : Grid) (t : Task) : Type 0 where
-    pub none : grantRefusal l v e D h m k ≡ 0
-    pub grid : g ≡ record { n = length l; v = v }
+    pub none : grantRefusal l v loss e D h m k ≡ 0
+    pub grid : g ≡ gridOf (length l) v loss
     pub task : t ≡ taskOf e D h m k
-    pub gridded : Gridded l (g .v)
+    pub gridded : Gridded l g
     pub within : Within t
 
-  pub checked-good : (g : Grid) (t : Task) → checked l v e D h m k ≡ Good g t → Asked g t
+  pub checked-good : (g : Grid) (t : Task) → checked l v loss e D h m k ≡ Good g t → Asked g t
   unfolding checked grantRefusal
   checked-good g t q =
       ⊎-elim
       (λ p.
       let rest = both-none _ _ (p .0) in
-      let grid = grid-within (length l) v (rest .0) in
-      let same-grid : g ≡ record { n = length l; v = v } = cc in
+      let grid = grid-within (length l) v loss (rest .0) in
+      let same-grid : g ≡ gridOf (length l) v loss = cc in
       let same-task : t ≡ taskOf e D h m k = cc in
       record {
         none = p .0;
         grid = same-grid;
         task = same-task;
-        gridded = rw same-grid (record { some = grid .ticks; most = grid .most; number = grid .number });
+        gridded = rw same-grid (record { some = grid .ticks; most = grid .most; short = grid .short; number = grid .number });
         within = rw same-task (task-within e D h m k (both-none _ _ (rest .1) .1));
       })
       (λ p. never (cc))
       (either _ _ _ q)
 
-  pub checked-refused : (n : ℕ) → checked l v e D h m k ≡ Refused n → (n ≡ grantRefusal l v e D h m k) × (n ≡ 0 → ⊥)
+  pub checked-refused : (n : ℕ) → checked l v loss e D h m k ≡ Refused n → (n ≡ grantRefusal l v loss e D h m k) × (n ≡ 0 → ⊥)
   unfolding checked
   checked-refused n q = ⊎-elim (λ p. never (cc)) (λ p. (cc, λ z. p .0 (cc))) (either _ _ _ q)
 
   -- ---- the ways out
 
-  low : grantRefusal l v e D h m k ≤ 12
+  low : grantRefusal l v loss e D h m k ≤ 12
   unfolding grantRefusal gridRefusal badMark taskRefusal
   low =
       low-otherwise _ _ (low-when 12 _ (lit≤ tt))
@@ -107,7 +107,7 @@ module _ (l : List ℕ) (v e D h m k : ℕ) where
       (low-otherwise _ _ (low-when 7 _ (lit≤ tt))
       (low-otherwise _ _ (low-when 8 _ (lit≤ tt)) (low-otherwise _ _ (low-when 9 _ (lit≤ tt)) (low-when 10 _ (lit≤ tt)))))))
 
-  pub call-refused : (n : ℕ) → checked l v e D h m k ≡ Refused n → GrantCall l v e D h m k n 0 l
+  pub call-refused : (n : ℕ) → checked l v loss e D h m k ≡ Refused n → GrantCall l v loss e D h m k n 0 l
   call-refused n q =
       let p = checked-refused n q in
       record {
@@ -120,8 +120,8 @@ module _ (l : List ℕ) (v e D h m k : ℕ) where
         kept = λ _. refl;
       }
 
-  module _ (g : Grid) (t : Task) (good : checked l v e D h m k ≡ Good g t) where
-    pub call-none : NoChoice (length l) (g .v) (freeOf l) (asked t) → GrantCall l v e D h m k 13 0 l
+  module _ (g : Grid) (t : Task) (good : checked l v loss e D h m k ≡ Good g t) where
+    pub call-none : NoChoice (length l) (g .v) (g .loss) (freeOf l) (asked t) → GrantCall l v loss e D h m k 13 0 l
     call-none found =
         let a = checked-good g t good in
         record {
@@ -135,8 +135,8 @@ module _ (l : List ℕ) (v e D h m k : ℕ) where
         }
 
     pub call-granted :
-        (j : ℕ) (after : List ℕ) → Granted (length l) (g .v) (freeOf l) (asked t) j → Marked l j after
-        → GrantCall l v e D h m k 0 j after
+        (j : ℕ) (after : List ℕ) → Granted (length l) (g .v) (g .loss) (freeOf l) (asked t) j → Marked l j after
+        → GrantCall l v loss e D h m k 0 j after
     call-granted j after found marks =
         let a = checked-good g t good in
         record {

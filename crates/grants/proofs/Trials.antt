@@ -4,15 +4,12 @@ use mathlib.Core.Logic.{_↔_}
 use mathlib.Core.Bool.{Bool, true}
 use mathlib.Core.List.{List}
 use Prim.Native.Nat.{ℕ}
-use lib.ListN.{length}
 use Rattle.rules.specs.Supply.{Task}
 use Rattle.rules.specs.Worst.{Firm}
-use Rattle.rules.specs.Grant.{first, gridTicks}
+use Rattle.limits.specs.declared.Grid.{Grid}
 use Rattle.limits.proofs.Refusals.{clash}
-use Rattle.ticks.specs.Ticks.{freeOf}
-use Rattle.grants.specs.Grants.{FirmSays}
+use Rattle.grants.specs.Grants.{firstTicks, FirmSays}
 
 pub trial-says :
-    (l : List ℕ) (v : ℕ) (t : Task) (j : ℕ) (b : Bool) → (b ≡ true) ↔ Firm (gridTicks (length l) v (first (freeOf l) j)) t
-    → FirmSays l v t j b
-trial-says l v t j b agree = record { yes-firm = agree .0; not-firm = λ f firm. clash (agree .1 firm) f }
+    (l : List ℕ) (g : Grid) (t : Task) (j : ℕ) (b : Bool) → (b ≡ true) ↔ Firm (firstTicks l g j) t → FirmSays l g t j b
+trial-says l g t j b agree = record { yes-firm = agree .0; not-firm = λ f firm. clash (agree .1 firm) f }

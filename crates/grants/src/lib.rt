@@ -10,6 +10,7 @@ use limits::Grid;
 use limits::GridMade;
 use limits::Task;
 use limits::TaskMade;
+use room::FEW_EDGES;
 
 pub struct Granted {
     pub number: u32,
@@ -23,10 +24,19 @@ enum Checked {
 }
 
 // The grid and the task, or the first of the refusals 12 and 6 to 10 that applies.
-fn check(marks: &[u8], v: usize, e: usize, d: usize, h: usize, m: usize, k: usize) -> Checked
-    ensures { λ a. ⌜ a ≡ checked (now (marks .entry)) v e d h m k ⌝ }
+fn check(
+    marks: &[u8],
+    v: usize,
+    loss: usize,
+    e: usize,
+    d: usize,
+    h: usize,
+    m: usize,
+    k: usize,
+) -> Checked
+    ensures { λ a. ⌜ a ≡ checked (now (marks .entry)) v loss e d h m k ⌝ }
 {
-    match Grid::new(marks.len(), v) {
+    match Grid::new(marks.len(), v, loss) {
         GridMade::Refused(bad) => Checked::Refused(bad),
         GridMade::Made(grid) => {
             if marks::bad(marks) {
@@ -41,12 +51,13 @@ fn check(marks: &[u8], v: usize, e: usize, d: usize, h: usize, m: usize, k: usiz
 }
 
 // Grants the first free slots to a task: their marks become 2. A refusal moves no mark.
-pub fn grant(marks: &mut [u8], v: u64, e: u64, d: u64, h: u64, m: u64, k: u64) -> Granted
-    ensures { λ r. ⌜ GrantCall (now (marks .entry)) v e d h m k (r .number) (r .slots) (now (marks .exit)) ⌝ }
+pub fn grant(marks: &mut [u8], v: u64, loss: u64, e: u64, d: u64, h: u64, m: u64, k: u64) -> Granted
+    ensures { λ r. ⌜ GrantCall (now (marks .entry)) v loss e d h m k (r .number) (r .slots) (now (marks .exit)) ⌝ }
 {
     match check(
         marks,
         v as usize,
+        loss as usize,
         e as usize,
         d as usize,
         h as usize,
@@ -58,8 +69,8 @@ pub fn grant(marks: &mut [u8], v: u64, e: u64, d: u64, h: u64, m: u64, k: u64) -
             slots: 0,
         },
         Checked::Good(grid, task) => {
-            let mut runs = [0u16; Grid::MOST_SLOTS];
-            match search::find(marks, grid.v, task, &mut runs) {
+            let mut runs = [0u16; FEW_EDGES];
+            match search::find(marks, grid, task, &mut runs) {
                 Smallest::Nothing => Granted {
                     number: 13,
                     slots: 0,

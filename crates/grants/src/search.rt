@@ -1,8 +1,12 @@
 // The smallest number of first free slots that is firm, by halves: more slots never hurt.
 ghost use mathlib.Core.Path.{_≡_};
 ghost use lib.ListN.{length};
-ghost use Rattle.limits.specs.Limits.{mostGranted, asked, Within};
+ghost use Rattle.rules.specs.Sums.{number};
+ghost use Rattle.limits.specs.Limits.{asked, Within};
+ghost use Rattle.ticks.specs.Ticks.{freeOf};
+ghost use Rattle.room.specs.Room.{fewEdges};
 ghost use Rattle.grants.specs.Grants.{Gridded, Halving, Searched};
+use limits::Grid;
 use limits::Task;
 
 pub enum Smallest {
@@ -10,17 +14,17 @@ pub enum Smallest {
     Nothing,
 }
 
-// Between `low`, below which nothing is firm, and `high`, which is.
-fn halve(marks: &[u8], v: usize, task: Task, low: usize, high: usize, runs: &mut [u16]) -> usize
-    requires { ⌜ Gridded (now marks) v × Within task × (length (now runs) ≡ mostGranted) ⌝ }
-    requires { ⌜ Halving (now marks) v (asked task) low high ⌝ }
-    ensures { λ r. ⌜ Halving (now (marks .entry)) v (asked task) r r ⌝ }
+// Between 1, below which nothing is firm, and all the free ones, which are.
+fn halve(marks: &[u8], grid: Grid, task: Task, all: usize, runs: &mut [u16]) -> usize
+    requires { ⌜ Gridded (now marks) grid × Within task × (length (now runs) ≡ fewEdges) × (all ≡ number (freeOf (now marks)) (length (now marks))) ⌝ }
+    requires { ⌜ Halving (now marks) grid (asked task) 1 all ⌝ }
+    ensures { λ r. ⌜ Halving (now (marks .entry)) grid (asked task) r r ⌝ }
 {
-    let mut below = low;
-    let mut above = high;
+    let mut below = 1;
+    let mut above = all;
     while below < above {
         let middle = (below + above) / 2;
-        if crate::trial::firm(marks, v, task, middle, runs) {
+        if crate::trial::firm(marks, grid, task, all, middle, runs) {
             above = middle;
         } else {
             below = middle + 1;
@@ -30,9 +34,9 @@ fn halve(marks: &[u8], v: usize, task: Task, low: usize, high: usize, runs: &mut
 }
 
 // With m 0 every table is firm. Otherwise no slots drop all strips, and if all the free ones aren't firm nothing is.
-pub fn find(marks: &[u8], v: usize, task: Task, runs: &mut [u16]) -> Smallest
-    requires { ⌜ Gridded (now marks) v × Within task × (length (now runs) ≡ mostGranted) ⌝ }
-    ensures { λ r. ⌜ Searched (now (marks .entry)) v (asked task) r ⌝ }
+pub fn find(marks: &[u8], grid: Grid, task: Task, runs: &mut [u16]) -> Smallest
+    requires { ⌜ Gridded (now marks) grid × Within task × (length (now runs) ≡ fewEdges) ⌝ }
+    ensures { λ r. ⌜ Searched (now (marks .entry)) grid (asked task) r ⌝ }
 {
     if task.m == 0 {
         return Smallest::First(0);
@@ -41,8 +45,8 @@ pub fn find(marks: &[u8], v: usize, task: Task, runs: &mut [u16]) -> Smallest
     if all == 0 {
         return Smallest::Nothing;
     }
-    if crate::trial::firm(marks, v, task, all, runs) {
-        return Smallest::First(halve(marks, v, task, 1, all, runs));
+    if crate::trial::firm(marks, grid, task, all, all, runs) {
+        return Smallest::First(halve(marks, grid, task, all, runs));
     }
     Smallest::Nothing
 }

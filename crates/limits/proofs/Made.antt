@@ -6,7 +6,7 @@ use native.Mathlib.Nat.{zero-lt-suc, mul-pos}
 use native.Mathlib.Omega.{arith}
 use borrow.Author.Tests.{ltb-false, eqb-false}
 use Rattle.limits.specs.Limits.{mostTicks, mostNeed, mostPeriod, mostStrips, mostGranted}
-use Rattle.limits.specs.Limits.{wheelRefusal, taskRefusal, gridRefusal, taskOf, madeWheel, madeTask, madeGrid, Within}
+use Rattle.limits.specs.Limits.{wheelRefusal, taskRefusal, gridRefusal, taskOf, gridOf, madeWheel, madeTask, madeGrid, Within}
 use Rattle.limits.specs.declared.Wheel.{Wheel}
 use Rattle.limits.specs.declared.Task.{Task}
 use Rattle.limits.specs.declared.Grid.{Grid}
@@ -38,13 +38,14 @@ module _ (e D h m k : ℕ) where
   unfolding madeTask
   task-refused n q = ⊎-elim (λ p. never (cc)) (λ p. (cc, λ z. p .0 (cc))) (either _ _ _ q)
 
-pub grid-made : (N v : ℕ) (x : Grid) → madeGrid N v ≡ gridMade.Made x → (gridRefusal N v ≡ 0) × (x ≡ record { n = N; v = v })
-unfolding madeGrid
-grid-made N v x e = ⊎-elim (λ p. (p .0, cc)) (λ p. never (cc)) (either _ _ _ e)
+module _ (N v loss : ℕ) where
+  pub grid-made : (x : Grid) → madeGrid N v loss ≡ gridMade.Made x → (gridRefusal N v loss ≡ 0) × (x ≡ gridOf N v loss)
+  unfolding madeGrid
+  grid-made x e = ⊎-elim (λ p. (p .0, cc)) (λ p. never (cc)) (either _ _ _ e)
 
-pub grid-refused : (N v n : ℕ) → madeGrid N v ≡ gridMade.Refused n → (n ≡ gridRefusal N v) × (n ≡ 0 → ⊥)
-unfolding madeGrid
-grid-refused N v n e = ⊎-elim (λ p. never (cc)) (λ p. (cc, λ z. p .0 (cc))) (either _ _ _ e)
+  pub grid-refused : (n : ℕ) → madeGrid N v loss ≡ gridMade.Refused n → (n ≡ gridRefusal N v loss) × (n ≡ 0 → ⊥)
+  unfolding madeGrid
+  grid-refused n e = ⊎-elim (λ p. never (cc)) (λ p. (cc, λ z. p .0 (cc))) (either _ _ _ e)
 
 -- ---- what no refusal means
 
@@ -73,17 +74,19 @@ task-within e D h m k none =
       painted = ltb-false k m (when-none 10 _ (zero-lt-suc 9) (nine .1));
     }
 
-pub record GridWithin (N v : ℕ) : Type 0 where
+pub record GridWithin (N v loss : ℕ) : Type 0 where
   pub some : 0 < N
   pub number : N ≤ mostGranted
   pub long : 0 < v
   pub ticks : 0 < N * v
   pub most : N * v ≤ mostTicks
+  pub short : loss ≤ v
 
-pub grid-within : (N v : ℕ) → gridRefusal N v ≡ 0 → GridWithin N v
+pub grid-within : (N v loss : ℕ) → gridRefusal N v loss ≡ 0 → GridWithin N v loss
 unfolding gridRefusal
-grid-within N v none =
-    let parts = or-false _ _ (when-none 12 _ (zero-lt-suc 11) none) in
+grid-within N v loss none =
+    let all = or-false _ _ (when-none 12 _ (zero-lt-suc 11) none) in
+    let parts = or-false _ _ (all .0) in
     let first = or-false _ _ (parts .0) in
     let slots = inside N mostGranted (first .0) in
     let n : ¬ (v ≡ 0) = eqb-false v 0 (first .1) in
@@ -94,4 +97,5 @@ grid-within N v none =
       long = long;
       ticks = mul-pos (slots .0) long;
       most = ltb-false _ _ (parts .1);
+      short = ltb-false _ _ (all .1);
     }

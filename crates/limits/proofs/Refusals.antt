@@ -1,12 +1,13 @@
 -- The laws of `when`, `otherwise` and `ifNone`, by which every refusal is proved to be the first that applies. Assumes nothing.
 use mathlib.Core.Path.{_≡_, refl, sym, ap, _∙_}
 use mathlib.Core.Logic.{_⊎_, inl, inr}
-use mathlib.Core.Bool.{Bool, true, false, not, _||_}
+use mathlib.Core.Bool.{Bool, true, false, not, _||_, or-true}
+use mathlib.Core.Bool as bool
 use Prim.Native.Nat.{ℕ, zero, suc, _*_, _^_, _≤_, _<_}
 use native.Mathlib.Omega.{arith}
 use native.Mathlib.Nat.{mul-le-mul, le-of-eq}
 use lib.Dec.{ltb, eqb}
-use borrow.Author.Tests.{eqb-false, ltb-true, ltb-false, lt-ltb, eq-eqb, ne-eqb}
+use borrow.Author.Tests.{eqb-false, ltb-true, ltb-false, lt-ltb, le-ltb, eq-eqb, ne-eqb}
 use Rattle.limits.specs.Refusal.{_when_, _otherwise_, ifNone}
 use Rattle.limits.specs.Limits.{outside, gridRefusal, mostGranted, mostTicks}
 
@@ -126,9 +127,9 @@ outside-above x most n = sym (ap (λ b. b || ltb most x) (ne-eqb x 0 n))
 
 -- ---- a grant's wheel, tested part by part
 
-pub grid-number : (N v : ℕ) → outside N mostGranted ≡ true → 12 ≡ gridRefusal N v
+pub grid-number : (N v loss : ℕ) → outside N mostGranted ≡ true → 12 ≡ gridRefusal N v loss
 unfolding gridRefusal _when_
-grid-number N v e = sym (ap (λ b. 12 when (b || eqb v 0 || ltb mostTicks (N * v))) e)
+grid-number N v loss e = sym (ap (λ b. 12 when (b || eqb v 0 || ltb mostTicks (N * v) || ltb v loss)) e)
 
 -- A length over the wheel's bound makes the product too large whatever the number of slots is.
 too-long : (N v : ℕ) → 0 < N → outside v mostTicks ≡ true → (eqb v 0 || ltb mostTicks (N * v)) ≡ true
@@ -142,19 +143,28 @@ too-long N v l e = go (eqb v 0) refl
         let m : 1 * v ≤ N * v = mul-le-mul l (le-of-eq refl) in
         lt-ltb mostTicks (N * v) (omega (arith, ltb-true mostTicks v above))
 
-pub grid-length : (N v : ℕ) → outside N mostGranted ≡ false → outside v mostTicks ≡ true → 12 ≡ gridRefusal N v
+pub grid-length : (N v loss : ℕ) → outside N mostGranted ≡ false → outside v mostTicks ≡ true → 12 ≡ gridRefusal N v loss
 unfolding gridRefusal _when_
-grid-length N v e f =
-    sym (ap (λ b. 12 when (b || eqb v 0 || ltb mostTicks (N * v))) e
-    ∙ ap (λ b. 12 when b) (too-long N v (inside N mostGranted e .0) f))
+grid-length N v loss e f =
+    sym (ap (λ b. 12 when (b || eqb v 0 || ltb mostTicks (N * v) || ltb v loss)) e
+    ∙ ap (λ b. 12 when (b || ltb v loss)) (too-long N v (inside N mostGranted e .0) f))
+
+pub grid-loss : (N v loss : ℕ) → v < loss → 12 ≡ gridRefusal N v loss
+unfolding gridRefusal _when_
+grid-loss N v loss l =
+    let wheel : Bool = outside N mostGranted || eqb v 0 || ltb mostTicks (N * v) in
+    sym (ap (λ b. 12 when (wheel || b)) (lt-ltb v loss l) ∙ ap (λ b. 12 when b) (or-true wheel))
 
 pub grid-product :
-    (N v : ℕ) → outside N mostGranted ≡ false → outside v mostTicks ≡ false
-    → (12 when ltb mostTicks (N * v)) ≡ gridRefusal N v
+    (N v loss : ℕ) → outside N mostGranted ≡ false → outside v mostTicks ≡ false → loss ≤ v
+    → (12 when ltb mostTicks (N * v)) ≡ gridRefusal N v loss
 unfolding gridRefusal _when_
-grid-product N v e f =
+grid-product N v loss e f short =
     let some : 0 < v = inside v mostTicks f .0 in
-    sym (ap (λ b. 12 when (b || eqb v 0 || ltb mostTicks (N * v))) e
+    let wheel : Bool = outside N mostGranted || eqb v 0 || ltb mostTicks (N * v) in
+    sym (ap (λ b. 12 when (wheel || b)) (le-ltb v loss short)
+    ∙ ap (λ b. 12 when b) (bool.or-false wheel)
+    ∙ ap (λ b. 12 when (b || eqb v 0 || ltb mostTicks (N * v))) e
     ∙ ap (λ b. 12 when (b || ltb mostTicks (N * v))) (ne-eqb v 0 (λ z. omega arith)))
 
 pub grid-fits : (N v : ℕ) → outside N mostGranted ≡ false → outside v mostTicks ≡ false → N * v < 2 ^ 64

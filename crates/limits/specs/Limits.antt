@@ -4,8 +4,9 @@
 --     idRefusal id                19 for an id that no slot can have as its owner
 --     wheelRefusal w              4 for a bad wheel
 --     taskRefusal e D h m k       6 to 10, the first that applies
---     gridRefusal N v             12 for a bad number or length of slots
+--     gridRefusal N v loss        12 for a bad number or length of slots, or a loss above it
 --     taskOf e D h m k            the task of these numbers
+--     gridOf N v loss             the slots of these numbers
 --     made..                      what a constructor answers to these numbers: the value, or the number of the refusal
 --     asked t                     the rules' task of a task that was made
 --     Within t                    what the refusals 6 to 10 have shown of a task that was made
@@ -15,6 +16,7 @@ use lib.Dec.{ltb, eqb}
 use Rattle.rules.specs.Supply as rules
 use Rattle.limits.specs.Refusal.{_when_, _otherwise_, ifNone}
 use Rattle.limits.specs.declared.Task.{Task}
+use Rattle.limits.specs.declared.Grid.{Grid}
 use Rattle.limits.specs.declared.WheelMade.{WheelMade}
 use Rattle.limits.specs.declared.TaskMade.{TaskMade}
 use Rattle.limits.specs.declared.GridMade.{GridMade}
@@ -60,8 +62,8 @@ taskRefusal e D h m k =
     otherwise 9 when outside k mostStrips
     otherwise 10 when ltb k m
 
-unfoldable pub gridRefusal : ℕ → ℕ → ℕ
-gridRefusal N v = 12 when (outside N mostGranted || eqb v 0 || ltb mostTicks (N * v))
+unfoldable pub gridRefusal : ℕ → ℕ → ℕ → ℕ
+gridRefusal N v loss = 12 when (outside N mostGranted || eqb v 0 || ltb mostTicks (N * v) || ltb v loss)
 
 abbrev pub taskOf : ℕ → ℕ → ℕ → ℕ → ℕ → Task
 taskOf e D h m k = record { e = e; d = D; h = h; m = m; k = k }
@@ -73,8 +75,12 @@ unfoldable pub madeTask : ℕ → ℕ → ℕ → ℕ → ℕ → TaskMade
 madeTask e D h m k =
     ifNone (taskRefusal e D h m k) (taskMade.Made (taskOf e D h m k)) (taskMade.Refused (taskRefusal e D h m k))
 
-unfoldable pub madeGrid : ℕ → ℕ → GridMade
-madeGrid N v = ifNone (gridRefusal N v) (gridMade.Made (record { n = N; v = v })) (gridMade.Refused (gridRefusal N v))
+abbrev pub gridOf : ℕ → ℕ → ℕ → Grid
+gridOf N v loss = record { n = N; v = v; loss = loss }
+
+unfoldable pub madeGrid : ℕ → ℕ → ℕ → GridMade
+madeGrid N v loss =
+    ifNone (gridRefusal N v loss) (gridMade.Made (gridOf N v loss)) (gridMade.Refused (gridRefusal N v loss))
 
 abbrev pub asked : Task → rules.Task
 asked t = record { e = t .e; D = t .d; h = t .h; m = t .m; k = t .k }

@@ -27,10 +27,11 @@ pub enum TaskMade {
     Refused(u32),
 }
 
-// The n equal slots of v ticks of a grant, accepted.
+// The n equal slots of v ticks of a grant, accepted. Where the processor changes hands, a slot's first ticks go to the switch: the loss.
 pub struct Grid {
     pub n: usize,
     pub v: usize,
+    pub loss: usize,
 }
 
 pub enum GridMade {
@@ -129,8 +130,8 @@ impl Grid {
     pub const MOST_SLOTS: usize = 64;
 
     // The product is formed only where it can't wrap: a slot over the wheel's bound is refused before it.
-    fn refusal(n: usize, v: usize) -> u32
-        ensures { λ r. ⌜ r ≡ gridRefusal n v ⌝ }
+    fn refusal(n: usize, v: usize, loss: usize) -> u32
+        ensures { λ r. ⌜ r ≡ gridRefusal n v loss ⌝ }
     {
         if outside(n, Grid::MOST_SLOTS) {
             return 12;
@@ -138,16 +139,19 @@ impl Grid {
         if outside(v, Wheel::MOST_TICKS) {
             return 12;
         }
+        if v < loss {
+            return 12;
+        }
         when(12, Wheel::MOST_TICKS < n * v)
     }
 
     // The n slots of v ticks, or refusal 12.
-    pub fn new(n: usize, v: usize) -> GridMade
-        ensures { λ r. ⌜ r ≡ madeGrid n v ⌝ }
+    pub fn new(n: usize, v: usize, loss: usize) -> GridMade
+        ensures { λ r. ⌜ r ≡ madeGrid n v loss ⌝ }
     {
-        let bad = Grid::refusal(n, v);
+        let bad = Grid::refusal(n, v, loss);
         if bad == 0 {
-            GridMade::Made(Grid { n, v })
+            GridMade::Made(Grid { n, v, loss })
         } else {
             GridMade::Refused(bad)
         }

@@ -8,12 +8,13 @@ use mathlib.Core.List.{List, [], _∷_, _++_, append-nil}
 use Prim.Native.Nat.{ℕ, zero, suc, _+_, _%_, _≤_, _<_}
 use native.Mathlib.Nat.{zero-add}
 use native.Mathlib.Omega.{arith}
+use lib.Dec.{eqb}
 use lib.IntN.{pos}
 use lib.ListN.{length, getD, take, length-append, List·getD-append}
 use lib.Seq.{getD-append-seam}
 use Rattle.rules.specs.Sums.{Subset, any, bit}
 use Rattle.rules.specs.Supply.{supply, margin, count}
-use Rattle.rules.specs.Usable.{Slot, covers, usable, tableOf}
+use Rattle.rules.specs.Usable.{Slot, covers, touches, opens, usable, tableOf}
 use Rattle.rules.specs.Worst.{Worst, Firm}
 use Rattle.rules.specs.Least.{Least}
 use Rattle.octets.specs.Octets.{le4, over}
@@ -40,37 +41,51 @@ any-cong f g zero same = refl
 any-cong f g (suc n) same = ap₂ _||_ (any-cong f g n (λ i less. same i (omega arith))) (same n (omega arith))
 
 abbrev nowhere : Slot
-nowhere = record { start = 0; end = 0 }
+nowhere = record { start = 0; end = 0; loss = 0 }
 
--- Some slot of a list covers the tick y of the wheel.
-listed : List Slot → ℕ → Bool
-listed s y = any (λ i. true && covers (getD s i nowhere) y) (length s)
+-- Some slot of a list passes a test.
+listed : (Slot → Bool) → List Slot → Bool
+listed test s = any (λ i. true && test (getD s i nowhere)) (length s)
 
-listed-more : (s : List Slot) (x : Slot) (y : ℕ) → listed (s ++ x ∷ []) y ≡ (listed s y || covers x y)
-unfolding listed any
-listed-more s x y =
-    let long : length (s ++ x ∷ []) ≡ suc (length s) = length-append s (x ∷ []) ∙ omega arith in
-    rw long
-    (ap₂ _||_
-    (any-cong _ _ (length s) (λ i less. ap (λ z. covers z y) (List·getD-append s (x ∷ []) nowhere i less)))
-    (ap (λ z. covers z y) (getD-append-seam s x [] nowhere)))
+module _ (test : Slot → Bool) where
+  listed-more : (s : List Slot) (x : Slot) → listed test (s ++ x ∷ []) ≡ (listed test s || test x)
+  unfolding listed any
+  listed-more s x =
+      let long : length (s ++ x ∷ []) ≡ suc (length s) = length-append s (x ∷ []) ∙ omega arith in
+      rw long
+      (ap₂ _||_
+      (any-cong _ _ (length s) (λ i less. ap test (List·getD-append s (x ∷ []) nowhere i less)))
+      (ap test (getD-append-seam s x [] nowhere)))
 
-module _ (l : List ℕ) (first id : ℕ) where
   own-listed :
-      (n y : ℕ) → any (λ i. owned l first id i && covers (slotOf (slotAt l first i)) y) n ≡ listed (ownSlots l first id n) y
+      (l : List ℕ) (first id n : ℕ)
+      → any (λ i. owned l first id i && test (slotOf (slotAt l first i))) n ≡ listed test (ownSlots l first id n)
   unfolding any listed ownSlots
-  own-listed zero y = refl
-  own-listed (suc n) y = ap (λ b. b || (owned l first id n && covers (slotOf (slotAt l first n)) y)) (own-listed n y) ∙ go (owned l first id n)
+  own-listed l first id zero = refl
+  own-listed l first id (suc n) =
+      ap (λ b. b || (owned l first id n && test (slotOf (slotAt l first n)))) (own-listed l first id n) ∙ go (owned l first id n)
     where
       go :
-          (mine : Bool) → (listed (ownSlots l first id n) y || (mine && covers (slotOf (slotAt l first n)) y))
-          ≡ listed (ownSlots l first id n ++ cond mine (slotOf (slotAt l first n) ∷ []) []) y
-      go true = sym (listed-more (ownSlots l first id n) (slotOf (slotAt l first n)) y)
-      go false = or-false _ ∙ sym (ap (λ s. listed s y) (append-nil (ownSlots l first id n)))
+          (mine : Bool) → (listed test (ownSlots l first id n) || (mine && test (slotOf (slotAt l first n))))
+          ≡ listed test (ownSlots l first id n ++ cond mine (slotOf (slotAt l first n) ∷ []) [])
+      go true = sym (listed-more (ownSlots l first id n) (slotOf (slotAt l first n)))
+      go false = or-false _ ∙ sym (ap (listed test) (append-nil (ownSlots l first id n)))
+
+module _ (w : ℕ) where
+  -- A slot that ends at tick a of the wheel.
+  ends : ℕ → Slot → Bool
+  ends a s = eqb (s .end % w) (a % w)
+
+  -- A slot that gives tick y, where `met` tells at which ticks an own slot ends.
+  gives : ℕ → Subset → Slot → Bool
+  gives y met s = covers (cond (met (s .start)) (s .start) (s .start + s .loss)) (s .end) y
 
 pub own-ticks : OwnTicks
-unfolding ticksOf boardOf board usable tableOf listed
-own-ticks r l x = own-listed l (r .first) (r .id) (r .count) (x % r .w)
+unfolding ticksOf boardOf board usable opens touches tableOf listed ends gives
+own-ticks r l x =
+    let own : (Slot → Bool) → Bool = λ test. any (λ i. owned l (r .first) (r .id) i && test (slotOf (slotAt l (r .first) i))) (r .count) in
+    own-listed (gives (r .w) (x % r .w) (λ a. own (ends (r .w) a))) l (r .first) (r .id) (r .count)
+    ∙ (λ i. listed (gives (r .w) (x % r .w) (λ a. own-listed (ends (r .w) a) l (r .first) (r .id) (r .count) i)) (ownSlots l (r .first) (r .id) (r .count)))
 
 -- ---- what twins have in common
 

@@ -102,9 +102,9 @@ first-none : (free : Subset) (i : ℕ) → first free 0 i ≡ false
 unfolding first
 first-none free i = and-never (free i) _ (le-ltb (number free i) 0 (omega arith))
 
-grid-none : (N v : ℕ) (g : Subset) → ((i : ℕ) → g i ≡ false) → (x : ℕ) → gridTicks N v g x ≡ false
+grid-none : (N v loss : ℕ) (g : Subset) → ((i : ℕ) → g i ≡ false) → (x : ℕ) → gridTicks N v loss g x ≡ false
 unfolding gridTicks usable grid
-grid-none N v g none x = any-none _ N (λ i _. never-and (g i) _ (none i))
+grid-none N v loss g none x = any-none _ N (λ i _. never-and (g i) _ (none i))
 
 supply-none : (q : ℕ) (u : Subset) (D p : ℕ) → ((x : ℕ) → u x ≡ false) → supply q u D p ≡ 0
 unfolding supply bit
@@ -120,19 +120,19 @@ all-dropped u t none asks =
 
 -- ---- granting
 
-module _ (l : List ℕ) (v e D h m k n j : ℕ) (after : List ℕ) (call : GrantCall l v e D h m k n j after) where
+module _ (l : List ℕ) (v loss e D h m k n j : ℕ) (after : List ℕ) (call : GrantCall l v loss e D h m k n j after) where
   accepted : n ≡ 0 → Within (taskOf e D h m k)
   unfolding grantRefusal
-  accepted z = task-within e D h m k (both-none _ _ (both-none _ _ (go (ℕ-discrete (grantRefusal l v e D h m k) 0)) .1) .1)
+  accepted z = task-within e D h m k (both-none _ _ (both-none _ _ (go (ℕ-discrete (grantRefusal l v loss e D h m k) 0)) .1) .1)
     where
-      go : Dec (grantRefusal l v e D h m k ≡ 0) → grantRefusal l v e D h m k ≡ 0
+      go : Dec (grantRefusal l v loss e D h m k ≡ 0) → grantRefusal l v loss e D h m k ≡ 0
       go (yes good) = good
       go (no bad) = sym (call .refused bad) ∙ z
 
   none-asked : n ≡ 0 → m ≡ 0 → j ≡ 0
   unfolding Firm
   none-asked z none =
-      let ticks = gridTicks (length l) v (first (freeOf l) 0) in
+      let ticks = gridTicks (length l) v loss (first (freeOf l) 0) in
       let least = call .granted z .smallest 0 (λ q p _. omega (arith, count-le q ticks (askedFor e D h m k) p)) in
       omega arith
 
@@ -141,8 +141,8 @@ module _ (l : List ℕ) (v e D h m k n j : ℕ) (after : List ℕ) (call : Grant
   none-given z none =
       let task = askedFor e D h m k in
       let good = accepted z in
-      let ticks = gridTicks (length l) v (first (freeOf l) 0) in
-      let empty : (x : ℕ) → ticks x ≡ false = grid-none (length l) v _ (first-none (freeOf l)) in
+      let ticks = gridTicks (length l) v loss (first (freeOf l) 0) in
+      let empty : (x : ℕ) → ticks x ≡ false = grid-none (length l) v loss _ (first-none (freeOf l)) in
       let most : count 1 ticks task 0 ≤ k - m = (rw none at (call .granted z .firm)) 1 0 (omega arith) in
       omega (arith, all-dropped ticks task empty (good .asks), good .painted)
 
@@ -153,12 +153,12 @@ module _ (l : List ℕ) (v e D h m k n j : ℕ) (after : List ℕ) (call : Grant
       marked .each i (omega (arith, marked .long)) ∙ ap (λ b. cond b 2 (getD l i 0)) (first-none (freeOf l) i))
 
 pub grant-none : GrantNone
-grant-none l v e D h m k j after call = (
-  (none-given l v e D h m k 0 j after call refl, none-asked l v e D h m k 0 j after call refl),
-  none-moved l v e D h m k 0 j after call refl,
+grant-none l v loss e D h m k j after call = (
+  (none-given l v loss e D h m k 0 j after call refl, none-asked l v loss e D h m k 0 j after call refl),
+  none-moved l v loss e D h m k 0 j after call refl,
 )
 
 pub grant-certain : GrantCertain
 unfolding NoChoice
-grant-certain l v e D h m k n j after call good firm =
+grant-certain l v loss e D h m k n j after call good firm =
     ⊎-elim (λ (z : n ≡ 0). z) (λ (none : n ≡ 13). absurd (call .none none (freeOf l) (λ i less free. free) firm)) (call .outcome good)

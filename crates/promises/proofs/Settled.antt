@@ -138,17 +138,17 @@ packed-quick-settled task slots r r′ a b =
 
 -- Both calls end alike: refused by the input, granted, or without a choice.
 same-number :
-    (l : List ℕ) (v e D h m k n n′ j j′ : ℕ) (after after′ : List ℕ)
-    → GrantCall l v e D h m k n j after → GrantCall l v e D h m k n′ j′ after′ → Dec (grantRefusal l v e D h m k ≡ 0) → n ≡ n′
-same-number l v e D h m k n n′ j j′ after after′ a b (no bad) = a .refused bad ∙ sym (b .refused bad)
-same-number l v e D h m k n n′ j j′ after after′ a b (yes good) =
+    (l : List ℕ) (v loss e D h m k n n′ j j′ : ℕ) (after after′ : List ℕ)
+    → GrantCall l v loss e D h m k n j after → GrantCall l v loss e D h m k n′ j′ after′ → Dec (grantRefusal l v loss e D h m k ≡ 0) → n ≡ n′
+same-number l v loss e D h m k n n′ j j′ after after′ a b (no bad) = a .refused bad ∙ sym (b .refused bad)
+same-number l v loss e D h m k n n′ j j′ after after′ a b (yes good) =
     ⊎-elim
     (λ (p : n ≡ 0). ⊎-elim
     (λ (q : n′ ≡ 0). p ∙ sym q)
-    (λ (q : n′ ≡ 13). absurd (grant-unique _ _ _ _ _ (a .granted p) .1 (b .none q)))
+    (λ (q : n′ ≡ 13). absurd (grant-unique _ _ _ _ _ _ (a .granted p) .1 (b .none q)))
     (b .outcome good))
     (λ (p : n ≡ 13). ⊎-elim
-    (λ (q : n′ ≡ 0). absurd (grant-unique _ _ _ _ _ (b .granted q) .1 (a .none p)))
+    (λ (q : n′ ≡ 0). absurd (grant-unique _ _ _ _ _ _ (b .granted q) .1 (a .none p)))
     (λ (q : n′ ≡ 13). p ∙ sym q)
     (b .outcome good))
     (a .outcome good)
@@ -160,22 +160,22 @@ same-marks l j after after′ a b =
     a .each i inside ∙ sym (b .each i inside))
 
 same-rest :
-    (l : List ℕ) (v e D h m k n j j′ : ℕ) (after after′ : List ℕ)
-    → GrantCall l v e D h m k n j after → GrantCall l v e D h m k n j′ after′ → Dec (n ≡ 0) → (j ≡ j′) × (after ≡ after′)
-same-rest l v e D h m k n j j′ after after′ a b (no n+) = (a .nothing n+ ∙ sym (b .nothing n+), a .kept n+ ∙ sym (b .kept n+))
-same-rest l v e D h m k n j j′ after after′ a b (yes z) =
-    let one : j ≡ j′ = grant-unique _ _ _ _ _ (b .granted z) .0 j (a .granted z) in
+    (l : List ℕ) (v loss e D h m k n j j′ : ℕ) (after after′ : List ℕ)
+    → GrantCall l v loss e D h m k n j after → GrantCall l v loss e D h m k n j′ after′ → Dec (n ≡ 0) → (j ≡ j′) × (after ≡ after′)
+same-rest l v loss e D h m k n j j′ after after′ a b (no n+) = (a .nothing n+ ∙ sym (b .nothing n+), a .kept n+ ∙ sym (b .kept n+))
+same-rest l v loss e D h m k n j j′ after after′ a b (yes z) =
+    let one : j ≡ j′ = grant-unique _ _ _ _ _ _ (b .granted z) .0 j (a .granted z) in
     (one, same-marks l j′ after after′ (rw one at (a .marked z)) (b .marked z))
 
 pub grant-settled : GrantSettled
-grant-settled l v e D h m k n n′ j j′ after after′ a b =
-    let number : n ≡ n′ = same-number l v e D h m k n n′ j j′ after after′ a b (ℕ-discrete (grantRefusal l v e D h m k) 0) in
-    let rest = same-rest l v e D h m k n′ j j′ after after′ (rw number at a) b (ℕ-discrete n′ 0) in
+grant-settled l v loss e D h m k n n′ j j′ after after′ a b =
+    let number : n ≡ n′ = same-number l v loss e D h m k n n′ j j′ after after′ a b (ℕ-discrete (grantRefusal l v loss e D h m k) 0) in
+    let rest = same-rest l v loss e D h m k n′ j j′ after after′ (rw number at a) b (ℕ-discrete n′ 0) in
     (number, rest .0, rest .1)
 
 pub packed-settled : PackedSettled
-packed-settled l v e D h m k r r′ after after′ a b =
-    let same = grant-settled l v e D h m k _ _ _ _ after after′ (a .call) (b .call) in
+packed-settled l v loss e D h m k r r′ after after′ a b =
+    let same = grant-settled l v loss e D h m k _ _ _ _ after after′ (a .call) (b .call) in
     (a .result ∙ ap₂ packed (same .0) (same .1) ∙ sym (b .result), same .2)
 
 -- ---- lookup

@@ -54,11 +54,11 @@ QuickAgrees =
 
 abbrev pub GrantNone : Type 0
 GrantNone =
-    (l : List ℕ) (v e D h m k j : ℕ) (after : List ℕ)
-    → GrantCall l v e D h m k 0 j after → ((j ≡ 0) ↔ (m ≡ 0)) × (m ≡ 0 → after ≡ l)
+    (l : List ℕ) (v loss e D h m k j : ℕ) (after : List ℕ)
+    → GrantCall l v loss e D h m k 0 j after → ((j ≡ 0) ↔ (m ≡ 0)) × (m ≡ 0 → after ≡ l)
 
 abbrev pub GrantCertain : Type 0
 GrantCertain =
-    (l : List ℕ) (v e D h m k n j : ℕ) (after : List ℕ)
-    → GrantCall l v e D h m k n j after → grantRefusal l v e D h m k ≡ 0
-    → Firm (gridTicks (length l) v (freeOf l)) (askedFor e D h m k) → n ≡ 0
+    (l : List ℕ) (v loss e D h m k n j : ℕ) (after : List ℕ)
+    → GrantCall l v loss e D h m k n j after → grantRefusal l v loss e D h m k ≡ 0
+    → Firm (gridTicks (length l) v loss (freeOf l)) (askedFor e D h m k) → n ≡ 0

@@ -71,14 +71,14 @@ PackedQuickSettled = (task slots : List ℕ) (r r′ : ℕ) → PackedQuick task
 -- grants::grant: the number, j and the marks.
 abbrev pub GrantSettled : Type 0
 GrantSettled =
-    (l : List ℕ) (v e D h m k n n′ j j′ : ℕ) (after after′ : List ℕ)
-    → GrantCall l v e D h m k n j after → GrantCall l v e D h m k n′ j′ after′ → (n ≡ n′) × (j ≡ j′) × (after ≡ after′)
+    (l : List ℕ) (v loss e D h m k n n′ j j′ : ℕ) (after after′ : List ℕ)
+    → GrantCall l v loss e D h m k n j after → GrantCall l v loss e D h m k n′ j′ after′ → (n ≡ n′) × (j ≡ j′) × (after ≡ after′)
 
 -- fiddlequill_grant: the packed number and the marks.
 abbrev pub PackedSettled : Type 0
 PackedSettled =
-    (l : List ℕ) (v e D h m k r r′ : ℕ) (after after′ : List ℕ)
-    → PackedGrant l v e D h m k r after → PackedGrant l v e D h m k r′ after′ → (r ≡ r′) × (after ≡ after′)
+    (l : List ℕ) (v loss e D h m k r r′ : ℕ) (after after′ : List ℕ)
+    → PackedGrant l v loss e D h m k r after → PackedGrant l v loss e D h m k r′ after′ → (r ≡ r′) × (after ≡ after′)
 
 -- records::lookup: the part.
 abbrev pub LookupSettled : Type 0

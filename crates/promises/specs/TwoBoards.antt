@@ -20,7 +20,7 @@ use Rattle.records.specs.Records.{taskRecord, owned, ticksOf, askedOf}
 use Rattle.promises.specs.Boards.{ownSlots, Twins, SameSlots}
 
 abbrev slot : ℕ → ℕ → Slot
-slot a b = record { start = a; end = b }
+slot a b = record { start = a; end = b; loss = 0 }
 
 abbrev pub slotRecord : ℕ → ℕ → ℕ → List ℕ
 slotRecord a b o = bytes4 a ++ bytes4 b ++ bytes2 o ++ bytes2 0

@@ -143,8 +143,8 @@ pub fn both(task: &[u8], slots: &[u8], reply: &mut [u8]) -> Pairing
     Pairing { judged, verdict }
 }
 
-pub fn grant(marks: &mut [u8], v: u64, e: u64, d: u64, h: u64, m: u64, k: u64) -> Pair
-    ensures { λ r. ⌜ GrantCall (now (marks .entry)) v e d h m k (r .number) (r .value) (now (marks .exit)) ⌝ }
+pub fn grant(marks: &mut [u8], v: u64, loss: u64, e: u64, d: u64, h: u64, m: u64, k: u64) -> Pair
+    ensures { λ r. ⌜ GrantCall (now (marks .entry)) v loss e d h m k (r .number) (r .value) (now (marks .exit)) ⌝ }
 {
-    unpack(fiddlequill::fiddlequill_grant(marks, v, e, d, h, m, k))
+    unpack(fiddlequill::fiddlequill_grant(marks, v, loss, e, d, h, m, k))
 }

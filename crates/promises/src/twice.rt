@@ -123,6 +123,7 @@ pub fn grant(
     one: &mut [u8],
     other: &mut [u8],
     v: u64,
+    loss: u64,
     e: u64,
     d: u64,
     h: u64,
@@ -133,8 +134,8 @@ pub fn grant(
     ensures { λ r. ⌜ (r .one .number ≡ r .other .number) × (r .one .slots ≡ r .other .slots) × (now (one .exit) ≡ now (other .exit)) ⌝ }
 {
     Grants {
-        one: grants::grant(one, v, e, d, h, m, k),
-        other: grants::grant(other, v, e, d, h, m, k),
+        one: grants::grant(one, v, loss, e, d, h, m, k),
+        other: grants::grant(other, v, loss, e, d, h, m, k),
     }
 }
 
@@ -222,6 +223,7 @@ pub fn fiddlequill_grant(
     one: &mut [u8],
     other: &mut [u8],
     v: u64,
+    loss: u64,
     e: u64,
     d: u64,
     h: u64,
@@ -232,8 +234,8 @@ pub fn fiddlequill_grant(
     ensures { λ r. ⌜ (r .one ≡ r .other) × (now (one .exit) ≡ now (other .exit)) ⌝ }
 {
     Packed {
-        one: fiddlequill::fiddlequill_grant(one, v, e, d, h, m, k),
-        other: fiddlequill::fiddlequill_grant(other, v, e, d, h, m, k),
+        one: fiddlequill::fiddlequill_grant(one, v, loss, e, d, h, m, k),
+        other: fiddlequill::fiddlequill_grant(other, v, loss, e, d, h, m, k),
     }
 }
 

@@ -14,21 +14,21 @@ use Rattle.records.specs.declared.Slot.{Slot}
 module _ (P : ℕ → Type 0) (none : P 0) where
   pub slots-all : P 15 → P 16 → P 17 → P 18 → (w : ℕ) (slot : ℕ → Slot) (n : ℕ) → P (firstBad w slot n)
   unfolding firstBad slotRefusal
-  slots-all empty past early spare w slot zero = none
-  slots-all empty past early spare w slot (suc n) =
-      otherwise-all P _ _ (slots-all empty past early spare w slot n)
+  slots-all empty past early lost w slot zero = none
+  slots-all empty past early lost w slot (suc n) =
+      otherwise-all P _ _ (slots-all empty past early lost w slot n)
       (otherwise-all P _ _ (when-all P 15 _ none empty)
       (otherwise-all P _ _ (when-all P 16 _ none past)
-      (otherwise-all P _ _ (when-all P 17 _ none early) (when-all P 18 _ none spare))))
+      (otherwise-all P _ _ (when-all P 17 _ none early) (when-all P 18 _ none lost))))
 
   pub board-all :
       P 3 → P 19 → P 4 → P 14 → P 15 → P 16 → P 17 → P 18 → (r : TaskRecord) (l : List ℕ) → P (boardRefusal r l)
   unfolding boardRefusal range idRefusal slotsRefusal tableRefusal wheelRefusal
-  board-all far high wheel many empty past early spare r l =
+  board-all far high wheel many empty past early lost r l =
       otherwise-all P _ _ (when-all P 3 _ none far)
       (otherwise-all P _ _ (when-all P 19 _ none high)
       (otherwise-all P _ _ (when-all P 4 _ none wheel)
-      (otherwise-all P _ _ (when-all P 14 _ none many) (slots-all empty past early spare _ _ _))))
+      (otherwise-all P _ _ (when-all P 14 _ none many) (slots-all empty past early lost _ _ _))))
 
   pub task-all : P 6 → P 7 → P 8 → P 9 → P 10 → (e D h m k : ℕ) → P (taskRefusal e D h m k)
   unfolding taskRefusal

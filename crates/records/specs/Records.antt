@@ -50,11 +50,11 @@ slotAt l first i =
       start = le4 l (slotBytes * (first + i));
       end = le4 l (slotBytes * (first + i) + 4);
       owner = le2 l (slotBytes * (first + i) + 8);
-      spare = le2 l (slotBytes * (first + i) + 10);
+      loss = le2 l (slotBytes * (first + i) + 10);
     }
 
 abbrev pub slotOf : code.Slot → Slot
-slotOf s = record { start = s .start; end = s .end }
+slotOf s = record { start = s .start; end = s .end; loss = s .loss }
 
 -- Whose slots are a task's: those whose owner is its id.
 unfoldable pub owned : List ℕ → ℕ → ℕ → Subset

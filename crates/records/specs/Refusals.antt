@@ -19,7 +19,7 @@
 -- and the slot before it is the record before it, whoever owns them.
 use mathlib.Core.Bool.{not, _||_}
 use mathlib.Core.List.{List}
-use Prim.Native.Nat.{ℕ, zero, suc, _+_, _*_, _/_, _%_}
+use Prim.Native.Nat.{ℕ, zero, suc, _+_, _-_, _*_, _/_, _%_}
 use lib.Dec.{leb, ltb, eqb}
 use lib.ListN.{length}
 use Rattle.limits.specs.Refusal.{_when_, _otherwise_, ifNone}
@@ -47,7 +47,7 @@ slotRefusal w before s =
     15 when leb (s .end) (s .start)
     otherwise 16 when ltb w (s .end)
     otherwise 17 when ltb (s .start) before
-    otherwise 18 when ltb 0 (s .spare)
+    otherwise 18 when ltb (s .end - s .start) (s .loss)
 
 unfoldable pub endBefore : (ℕ → Slot) → ℕ → ℕ
 endBefore slot zero = 0

@@ -37,7 +37,7 @@ pub fn slot_at(slots: &[u8], first: usize, i: usize) -> Slot
         start: octets::four(slots, at),
         end: octets::four(slots, at + 4),
         owner: octets::two(slots, at + 8),
-        spare: octets::two(slots, at + 10),
+        loss: octets::two(slots, at + 10),
     }
 }
 
@@ -45,11 +45,13 @@ pub fn slot_at(slots: &[u8], first: usize, i: usize) -> Slot
 fn slot_refusal(w: usize, before: usize, s: Slot) -> u32
     ensures { λ r. ⌜ r ≡ slotRefusal w before s ⌝ }
 {
-    let empty = limits::when(15, s.end <= s.start);
+    if s.end <= s.start {
+        return 15;
+    }
     let over = limits::when(16, w < s.end);
     let early = limits::when(17, s.start < before);
-    let spare = limits::when(18, 0 < s.spare);
-    limits::first(empty, limits::first(over, limits::first(early, spare)))
+    let lost = limits::when(18, s.end - s.start < s.loss);
+    limits::first(over, limits::first(early, lost))
 }
 
 // The first bad slot, or 0.

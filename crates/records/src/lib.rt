@@ -29,12 +29,13 @@ impl TaskRecord {
     pub const BYTES: usize = 32;
 }
 
-// The numbers of a slot record: from `start` to `end` the processor is the owner's. The spare bytes are zero in a good one.
+// The numbers of a slot record: from `start` to `end` the processor is the owner's. Where it changes hands, the first ticks go to the switch: the
+// loss.
 pub struct Slot {
     pub start: usize,
     pub end: usize,
     pub owner: usize,
-    pub spare: usize,
+    pub loss: usize,
 }
 
 impl Slot {

@@ -1,4 +1,4 @@
--- P1 to P14 of docs/RULES.md: the statement CasesHold.
+-- P1 to P22 of docs/RULES.md: the statement CasesHold.
 --
 -- Each kind of case has a test that computes over the half ticks of the wheel, and a law that turns the passed test into the claim over all
 -- fractions. The checker then runs the tests of the whole list at once.
@@ -16,7 +16,7 @@ use lib.IntN.{ℤ, pos, negsuc, subℕ}
 use Rattle.rules.specs.Sums.{Subset, bit, sum, number, any}
 use Rattle.rules.specs.Supply.{Task, supply, dropped, drops, count}
 use Rattle.rules.specs.Supply as rules
-use Rattle.rules.specs.Usable.{covers, usable, tableOf, grid}
+use Rattle.rules.specs.Usable.{covers, touches, opens, usable, tableOf, grid}
 use Rattle.rules.specs.Worst.{Wheel, Worst, Firm, firmTest}
 use Rattle.rules.specs.Least.{Least}
 use Rattle.rules.specs.Grant.{first, gridTicks}
@@ -141,20 +141,20 @@ least-yes w u wheel t l e = rw (← same-right _ _ e) (least-lowest w u wheel t)
 
 -- ---- a test for each kind
 
-grid? : ℕ → ℕ → Subset → Task → Bool
-grid? N v g t = firm? (N * v) (table (N * v) (gridTicks N v g) t) t
+grid? : ℕ → ℕ → ℕ → Subset → Task → Bool
+grid? N v loss g t = firm? (N * v) (table (N * v) (gridTicks N v loss g) t) t
 
 passes : Case → Bool
 passes (from w s t o c) = eqb (count 2 (usable w (tableOf s)) t o) c
 passes (worst w s t c o) = ltb 0 w and worst? w (table w (usable w (tableOf s)) t) t c o
 passes (verdict w s t c o b) = ltb 0 w and worst? w (table w (usable w (tableOf s)) t) t c o and Bool·beq b (firmTest t c)
 passes (margin w s t l) = ltb 0 w and least? w (usable w (tableOf s)) t l
-passes (grant N v free t j) =
+passes (grant N v loss free t j) =
     ltb 0 (N * v)
     and leb j (number free N)
-    and grid? N v (first free j) t
-    and all (λ i. not (grid? N v (first free i) t)) j
-passes (refusal13 N v free t) = ltb 0 (N * v) and not (grid? N v (first free (number free N)) t)
+    and grid? N v loss (first free j) t
+    and all (λ i. not (grid? N v loss (first free i) t)) j
+passes (refusal13 N v loss free t) = ltb 0 (N * v) and not (grid? N v loss (first free (number free N)) t)
 
 same-bit : (a b : Bool) → Bool·beq a b ≡ true → a ≡ b
 same-bit true true e = refl
@@ -176,19 +176,19 @@ sound (verdict w s t c o b) e =
     (is, (λ p. agree .0 (sym said ∙ p), λ f. said ∙ agree .1 f))
 sound (margin w s t l) e =
     least-yes w _ (slots-turn w (tableOf s) (ltb-true 0 w (left _ _ e))) t l (right _ _ e)
-sound (grant N v free t j) e =
+sound (grant N v loss free t j) e =
     let w+ : 0 < N * v = ltb-true 0 (N * v) (left _ _ (left _ _ (left _ _ e))) in
     record {
       enough = leb-true _ _ (right _ _ (left _ _ (left _ _ e)));
-      firm = firm-yes (N * v) _ (grid-turns N v (first free j) w+) t (right _ _ (left _ _ e));
+      firm = firm-yes (N * v) _ (grid-turns N v loss (first free j) w+) t (right _ _ (left _ _ e));
       smallest = λ i firm.
-          let n : ¬ (i < j) = λ l. firm-no (N * v) _ (grid-turns N v (first free i) w+) t (not-true _ (all-at _ j i (right _ _ e) l)) firm in
+          let n : ¬ (i < j) = λ l. firm-no (N * v) _ (grid-turns N v loss (first free i) w+) t (not-true _ (all-at _ j i (right _ _ e) l)) firm in
           omega arith;
     }
-sound (refusal13 N v free t) e =
+sound (refusal13 N v loss free t) e =
     let w+ : 0 < N * v = ltb-true 0 (N * v) (left _ _ e) in
-    no-choice N v free t
-    (firm-no (N * v) _ (grid-turns N v (first free (number free N)) w+) t (not-true _ (right _ _ e)))
+    no-choice N v loss free t
+    (firm-no (N * v) _ (grid-turns N v loss (first free (number free N)) w+) t (not-true _ (right _ _ e)))
 
 -- ---- the list
 
@@ -202,5 +202,5 @@ each [] e = tt
 each (c ∷ cs) e = (sound c (left _ _ e), each cs (right _ _ e))
 
 pub cases-hold : CasesHold
-unfolding _and_ every passes grid? firm? worst? least? same lowest counted table tab count drops dropped rules.margin supply number sum bit any usable covers tableOf grid gridTicks first firmTest
+unfolding _and_ every passes grid? firm? worst? least? same lowest counted table tab count drops dropped rules.margin supply number sum bit any usable covers touches opens tableOf grid gridTicks first firmTest
 cases-hold = each cases refl

@@ -1,21 +1,22 @@
--- Granting: the laws GrantExists and GrantUnique.
+-- Granting: the laws MoreSlots, GrantExists and GrantUnique.
 --
 -- More granted slots are more usable ticks, and more usable ticks never hurt. So if all the free slots together aren't firm, no set of them
 -- is; and if they are, there is a smallest number of first ones that is, since firm can be decided.
 -- In order: deciding firm; the smallest number that passes; more slots, more ticks; the grant. Assumes nothing.
 use mathlib.Core.Path.{_≡_, refl, sym, ap, _∙_}
 use mathlib.Core.Logic.{_⊎_, inl, inr, ⊎-elim}
-use mathlib.Core.Bool.{Bool, true, false}
-use Prim.Native.Nat.{ℕ, zero, suc, _+_, _*_, _≤_, _<_}
-use native.Mathlib.Nat.{le-refl, le-step, le-antisymm, not-suc-le-zero, le-of-suc-le-suc, eq-or-lt-of-le}
+use mathlib.Core.Bool.{Bool, true, false, cond, true≢false, _&&_}
+use Prim.Native.Nat.{ℕ, zero, suc, _+_, _*_, _%_, _≤_, _<_}
+use native.Mathlib.Nat.{le-refl, le-trans, le-add-right, le-step, le-antisymm, not-suc-le-zero, le-of-suc-le-suc, eq-or-lt-of-le}
 use native.Mathlib.Omega.{arith}
-use borrow.Author.Tests.{ltb-true, lt-ltb}
-use Rattle.rules.specs.Sums.{Subset, bit, number}
+use lib.Dec.{leb, ltb, eqb}
+use borrow.Author.Tests.{leb-true, le-leb, ltb-true, lt-ltb}
+use Rattle.rules.specs.Sums.{Subset, bit, any, number}
 use Rattle.rules.specs.Supply.{Task}
-use Rattle.rules.specs.Usable.{usable, grid}
+use Rattle.rules.specs.Usable.{Slot, covers, touches, opens, usable, grid}
 use Rattle.rules.specs.Worst.{Wheel, Worst, Firm, firmTest}
 use Rattle.rules.specs.Grant.{first, gridTicks, Granted, NoChoice}
-use Rattle.rules.specs.Laws.{GrantExists, GrantUnique}
+use Rattle.rules.specs.Laws.{MoreSlots, GrantExists, GrantUnique}
 use Rattle.rules.proofs.Sums.{and-left, and-right, and-both, any-mono, number-more, number-longer}
 use Rattle.rules.proofs.Worst.{worst-exists, firm-agrees}
 use Rattle.rules.proofs.More.{firm-mono}
@@ -62,16 +63,50 @@ smallest-or-none P dec (suc n) = smallest-step P n (smallest-or-none P dec n) (d
 
 -- ---- more slots, more ticks
 
-pub grid-turns : (N v : ℕ) (g : Subset) → 0 < N * v → Wheel (N * v) (gridTicks N v g)
+pub grid-turns : (N v loss : ℕ) (g : Subset) → 0 < N * v → Wheel (N * v) (gridTicks N v loss g)
 unfolding gridTicks
-grid-turns N v g pos = slots-turn (N * v) (grid N v g) pos
+grid-turns N v loss g pos = slots-turn (N * v) (grid N v loss g) pos
+
+-- A slot opens no later with more slots beside it: one more may touch it.
+opens-sooner :
+    (w n : ℕ) (slot : ℕ → Slot) (f g : Subset) → ((i : ℕ) → i < n → f i ≡ true → g i ≡ true)
+    → (i : ℕ) → opens w (record { size = n; slot = slot; ours = g }) i ≤ opens w (record { size = n; slot = slot; ours = f }) i
+unfolding opens touches
+opens-sooner w n slot f g more i =
+    go (meets f) (meets g)
+    (any-mono _ _ n (λ j less t. and-both (g j) _ (more j less (and-left (f j) _ t)) (and-right (f j) _ t)))
+  where
+    meets : Subset → Bool
+    meets s = any (λ j. s j && eqb (slot j .end % w) (slot i .start % w)) n
+
+    late : Bool → ℕ
+    late touching = cond touching (slot i .start) (slot i .start + slot i .loss)
+
+    go : (few many : Bool) → (few ≡ true → many ≡ true) → late many ≤ late few
+    go true true kept = le-refl _
+    go false true kept = le-add-right (slot i .start) (slot i .loss)
+    go true false kept = absurd (true≢false (sym (kept refl)))
+    go false false kept = le-refl _
+
+covers-sooner : (a b c x : ℕ) → a ≤ b → covers b c x ≡ true → covers a c x ≡ true
+unfolding covers
+covers-sooner a b c x soon t =
+    and-both (leb a x) (ltb x c)
+    (le-leb a x (le-trans soon (leb-true b x (and-left (leb b x) (ltb x c) t))))
+    (and-right (leb b x) (ltb x c) t)
+
+pub more-slots : MoreSlots
+unfolding usable
+more-slots w n slot f g more x =
+    any-mono _ _ n (λ i less t.
+    and-both (g i) _ (more i less (and-left (f i) _ t))
+    (covers-sooner _ _ (slot i .end) (x % w) (opens-sooner w n slot f g more i) (and-right (f i) _ t)))
 
 pub grid-mono :
-    (N v : ℕ) (f g : Subset) → ((i : ℕ) → i < N → f i ≡ true → g i ≡ true)
-    → (x : ℕ) → gridTicks N v f x ≡ true → gridTicks N v g x ≡ true
-unfolding gridTicks usable grid
-grid-mono N v f g h x =
-    any-mono _ _ N (λ i l t. and-both (g i) _ (h i l (and-left (f i) _ t)) (and-right (f i) _ t))
+    (N v loss : ℕ) (f g : Subset) → ((i : ℕ) → i < N → f i ≡ true → g i ≡ true)
+    → (x : ℕ) → gridTicks N v loss f x ≡ true → gridTicks N v loss g x ≡ true
+unfolding gridTicks grid
+grid-mono N v loss f g h x = more-slots (N * v) N _ f g h x
 
 -- The first j of the free slots are among the first j + more, and all of them where j is their number.
 pub first-free : (free : Subset) (j i : ℕ) → first free j i ≡ true → free i ≡ true
@@ -95,26 +130,27 @@ first-all free N x l t =
 
 -- If all the free slots aren't firm, no choice of them is.
 pub no-choice :
-    (N v : ℕ) (free : Subset) (t : Task) → (Firm (gridTicks N v (first free (number free N))) t → ⊥) → NoChoice N v free t
+    (N v loss : ℕ) (free : Subset) (t : Task) → (Firm (gridTicks N v loss (first free (number free N))) t → ⊥)
+    → NoChoice N v loss free t
 unfolding NoChoice
-no-choice N v free t not g among firm =
-    not (firm-mono _ _ t (grid-mono N v g (first free (number free N)) (λ i l h. first-all free N i l (among i l h))) firm)
+no-choice N v loss free t not g among firm =
+    not (firm-mono _ _ t (grid-mono N v loss g (first free (number free N)) (λ i l h. first-all free N i l (among i l h))) firm)
 
 pub grant-exists : GrantExists
-grant-exists N v free t pos =
-    go (smallest-or-none P (λ j. firm-or-not (N * v) _ (grid-turns N v (first free j) pos) t) (suc (number free N)))
+grant-exists N v loss free t pos =
+    go (smallest-or-none P (λ j. firm-or-not (N * v) _ (grid-turns N v loss (first free j) pos) t) (suc (number free N)))
   where
     P : ℕ → Type 0
-    P j = Firm (gridTicks N v (first free j)) t
+    P j = Firm (gridTicks N v loss (first free j)) t
 
     go : Smallest P (suc (number free N)) ⊎ ((i : ℕ) → i < suc (number free N) → P i → ⊥)
-        → ((j : ℕ) × Granted N v free t j) ⊎ NoChoice N v free t
+        → ((j : ℕ) × Granted N v loss free t j) ⊎ NoChoice N v loss free t
     go (inl s) = inl (s .place, record { enough = le-of-suc-le-suc (s .below); firm = s .holds; smallest = s .first-one })
-    go (inr none) = inr (no-choice N v free t (none (number free N) (le-refl _)))
+    go (inr none) = inr (no-choice N v loss free t (none (number free N) (le-refl _)))
 
 pub grant-unique : GrantUnique
 unfolding NoChoice
-grant-unique N v free t j g = (
+grant-unique N v loss free t j g = (
   λ i h. le-antisymm (h .smallest j (g .firm)) (g .smallest i (h .firm)),
   λ none. none (first free j) (λ i l. first-free free j i) (g .firm),
 )

@@ -10,7 +10,7 @@ use native.Mathlib.Numerals.{add-one}
 use native.Mathlib.Omega.{arith}
 use Rattle.rules.specs.Sums.{Subset, bit, number, any}
 use Rattle.rules.specs.Supply.{supply}
-use Rattle.rules.specs.Usable.{covers, usable}
+use Rattle.rules.specs.Usable.{covers, opens, usable}
 use Rattle.rules.specs.Worst.{Wheel}
 use Rattle.rules.specs.Laws.{WholeTurns, SlotsTurn}
 use Rattle.rules.proofs.Sums.{number-none}
@@ -33,4 +33,7 @@ whole-turns w u wheel (suc n) x =
 pub slots-turn : SlotsTurn
 unfolding usable
 slots-turn w s pos =
-    record { some = pos; turns = λ x. ap (λ y. any (λ i. s .ours i && covers (s .slot i) y) (s .size)) (add-mod-right x w) }
+    record {
+      some = pos;
+      turns = λ x. ap (λ y. any (λ i. s .ours i && covers (opens w s i) (s .slot i .end) y) (s .size)) (add-mod-right x w);
+    }

@@ -17,6 +17,7 @@
 --     Windows           a window is a difference of two running totals
 --     WholeTurns        each whole turn adds the same to the running total
 --     SlotsTurn         a slot table's usable ticks are a wheel
+--     MoreSlots         with more of its slots the painter has every tick it had, losses and touching included
 --     GrantExists       a grant exists unless no set of free slots is firm
 --     GrantUnique       there is one grant at most, and none beside refusal 13
 --
@@ -30,7 +31,7 @@ use lib.IntN.{ℤ, pos, _-ℤ_}
 use lib.Signed.{_≤ℤ_}
 use Rattle.rules.specs.Sums.{Subset, bit, number}
 use Rattle.rules.specs.Supply.{Task, supply, dropped, drops, count}
-use Rattle.rules.specs.Usable.{Table, usable}
+use Rattle.rules.specs.Usable.{Slot, Table, usable}
 use Rattle.rules.specs.Worst.{Wheel, Worst, Firm, firmTest}
 use Rattle.rules.specs.Least.{Least, grown, Painted}
 use Rattle.rules.specs.Zone.{ZoneStart, Candidate}
@@ -116,12 +117,19 @@ WholeTurns = (w : ℕ) (u : Subset) → Wheel w u → (n x : ℕ) → number u (
 abbrev pub SlotsTurn : Type 0
 SlotsTurn = (w : ℕ) (s : Table) → 0 < w → Wheel w (usable w s)
 
+-- A slot that comes may end a loss, and never makes one.
+abbrev pub MoreSlots : Type 0
+MoreSlots =
+    (w n : ℕ) (slot : ℕ → Slot) (f g : Subset) → ((i : ℕ) → i < n → f i ≡ true → g i ≡ true)
+    → (x : ℕ) → usable w (record { size = n; slot = slot; ours = f }) x ≡ true
+    → usable w (record { size = n; slot = slot; ours = g }) x ≡ true
+
 abbrev pub GrantExists : Type 0
 GrantExists =
-    (N v : ℕ) (free : Subset) (t : Task) → 0 < N * v
-    → ((j : ℕ) × Granted N v free t j) ⊎ NoChoice N v free t
+    (N v loss : ℕ) (free : Subset) (t : Task) → 0 < N * v
+    → ((j : ℕ) × Granted N v loss free t j) ⊎ NoChoice N v loss free t
 
 abbrev pub GrantUnique : Type 0
 GrantUnique =
-    (N v : ℕ) (free : Subset) (t : Task) (j : ℕ) → Granted N v free t j
-    → ((i : ℕ) → Granted N v free t i → i ≡ j) × (NoChoice N v free t → ⊥)
+    (N v loss : ℕ) (free : Subset) (t : Task) (j : ℕ) → Granted N v loss free t j
+    → ((i : ℕ) → Granted N v loss free t i → i ≡ j) × (NoChoice N v loss free t → ⊥)

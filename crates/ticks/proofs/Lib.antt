@@ -1,3 +1,5 @@
 pub mod Spans
+pub mod Order
+pub mod Laying
 pub mod Slots
 pub mod Marks

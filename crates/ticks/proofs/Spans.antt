@@ -1,5 +1,6 @@
 -- Laying out span after span: what a span does, and how far a buffer has come. Assumes nothing.
 use mathlib.Core.Path.{_≡_, refl, _∙_}
+use mathlib.Core.Logic.{⊎-elim}
 use mathlib.Core.List.{List}
 use Prim.Native.Nat.{ℕ, _≤_, _<_}
 use native.Mathlib.Nat.{le-antisymm}
@@ -7,6 +8,7 @@ use native.Mathlib.Omega.{arith}
 use lib.ListN.{length, take}
 use Rattle.rules.specs.Sums.{Subset, bit}
 use Rattle.rules.specs.Worst.{Wheel}
+use Rattle.rules.proofs.Sums.{le-or-lt}
 use Rattle.limits.specs.Limits.{mostTicks}
 use Rattle.runs.specs.Runs.{Lay, LaidIn, Turn}
 use Rattle.runs.proofs.Edges.{lay-none, lay-span}
@@ -18,6 +20,7 @@ span-turn l l′ n from to step r room some t =
     record {
       long = t .long;
       high = t .high;
+      none = λ end. absurd (omega arith);
       parity = λ _. t .parity;
       lay = λ u lay after. lay-span u to t lay (omega (arith, t .long, t .high)) (omega arith) after;
     }
@@ -28,19 +31,21 @@ span-none l n from to step order none =
     record {
       long = refl;
       high = omega arith;
+      none = λ _. refl;
       parity = λ some. absurd (omega arith);
       lay = λ u lay _. rw e at lay;
     }
 
 -- A gap and a slot behind it.
 pub span-slot :
-    {l l′ l″ : List ℕ} {n k r at start end : ℕ} → Span l n at start 0 k l′ → Span l′ k start end 1 r l″ → start < end
-    → Slotted l n at start end r l″
-span-slot gap run some =
+    {l l′ l″ : List ℕ} {n k r at from to : ℕ} → Span l n at from 0 k l′ → Span l′ k from to 1 r l″ → Slotted l n at from to r l″
+span-slot {n = n} {k = k} {r = r} {from = from} {to = to} gap run =
     record {
       long = run .long ∙ gap .long;
-      high = omega (arith, gap .high, run .high);
-      parity = run .parity some;
+      high = ⊎-elim
+          (λ (p : to ≤ from). omega (arith, gap .high, run .none p))
+          (λ (p : from < to). omega (arith, gap .high, run .high, run .parity p))
+          (le-or-lt to from);
       lay = λ u lay out within. run .lay u (gap .lay u lay out) within;
     }
 
@@ -58,8 +63,8 @@ pub come-on :
 come-on {u} come s after = record { long = s .long ∙ come .long; lay = s .lay u (come .lay) after }
 
 pub come-slot :
-    {u : Subset} {l₀ l l′ : List ℕ} {n at start end r : ℕ} → Come u l₀ l n at → Slotted l n at start end r l′
-    → ((x : ℕ) → at ≤ x → x < start → bit (u x) ≡ 0) → ((x : ℕ) → start ≤ x → x < end → bit (u x) ≡ 1) → Come u l₀ l′ r end
+    {u : Subset} {l₀ l l′ : List ℕ} {n at from to r : ℕ} → Come u l₀ l n at → Slotted l n at from to r l′
+    → ((x : ℕ) → at ≤ x → x < from → bit (u x) ≡ 0) → ((x : ℕ) → from ≤ x → x < to → bit (u x) ≡ 1) → Come u l₀ l′ r to
 come-slot {u} come s out within = record { long = s .long ∙ come .long; lay = s .lay u (come .lay) out within }
 
 pub come-round :

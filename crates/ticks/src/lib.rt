@@ -1,17 +1,17 @@
-// The usable ticks of a task on its board, or of a grant, as runs. Behind this crate nothing knows of slots, owners or marks.
+// The usable ticks of a task on its board, or of a grant, as runs. Behind this crate nothing knows of slots, owners, losses or marks.
 ghost use mathlib.Core.Path.{_≡_};
 ghost use mathlib.Core.Bool.{true, _&&_};
-ghost use Prim.Native.Nat.{_+_, _*_, _≤_, _<_};
+ghost use Prim.Native.Nat.{_+_, _*_, _/_, _≤_, _<_};
 ghost use lib.Dec.{eqb, ltb};
 ghost use lib.ListN.{length};
-ghost use Rattle.rules.specs.Sums.{bit};
-ghost use Rattle.rules.specs.Usable.{usable};
+ghost use Rattle.rules.specs.Sums.{bit, number};
+ghost use Rattle.rules.specs.Usable.{usable, grid};
 ghost use Rattle.rules.specs.Grant.{first, gridTicks};
 ghost use Rattle.limits.specs.Limits.{mostTicks};
-ghost use Rattle.records.specs.Records.{board};
+ghost use Rattle.records.specs.Records.{slotBytes, board};
 ghost use Rattle.runs.specs.Runs.{LaidIn};
-ghost use Rattle.ticks.specs.Ticks.{Span, Slotted, Fits, freeOf, GridFits};
-use records::Slot;
+ghost use Rattle.ticks.specs.Ticks.{Span, Slotted, metFirst, opensAt, Fits, freeOf, WholeRow, Past, GridFits};
+use limits::Grid;
 
 // The ticks from `from` to `to` are out of the set (step 0) or in it (step 1). Where there are none, no edge comes between their neighbours.
 fn span(runs: &mut [u16], n: usize, from: usize, to: usize, step: usize) -> usize
@@ -24,13 +24,38 @@ fn span(runs: &mut [u16], n: usize, from: usize, to: usize, step: usize) -> usiz
     n
 }
 
-// The ticks from `at` to a slot's start are out of the set, those of the slot are in it.
-fn slot(runs: &mut [u16], n: usize, at: usize, s: Slot) -> usize
-    requires { ⌜ (n + 1 < length (now runs)) × (at ≤ s .start) × (s .start < s .end) × (s .end ≤ mostTicks) ⌝ }
-    ensures { λ r. ⌜ Slotted (now (runs .entry)) n at (s .start) (s .end) r (now (runs .exit)) ⌝ }
+// The ticks from `at` to `from` are out of the set, those from there to `to` are in it: a slot, from its first tick that isn't lost.
+fn slot(runs: &mut [u16], n: usize, at: usize, from: usize, to: usize) -> usize
+    requires { ⌜ (n + 1 < length (now runs)) × (at ≤ from) × (from ≤ to) × (to ≤ mostTicks) ⌝ }
+    ensures { λ r. ⌜ Slotted (now (runs .entry)) n at from to r (now (runs .exit)) ⌝ }
 {
-    let k = span(runs, n, at, s.start, 0);
-    span(runs, k, s.start, s.end, 1)
+    let k = span(runs, n, at, from, 0);
+    span(runs, k, from, to, 1)
+}
+
+// The first tick of a slot that isn't lost. Where an own slot ends at its start, the processor doesn't change hands.
+fn opens(start: usize, loss: usize, met: usize) -> usize
+    requires { ⌜ start + loss ≤ mostTicks ⌝ }
+    ensures { λ r. ⌜ r ≡ opensAt start loss met ⌝ }
+{
+    if start == met { start } else { start + loss }
+}
+
+// Where the board's first slot is met as the wheel turns: by its last one, if that is the owner's and ends with the wheel. No slot starts at w.
+fn met_first(slots: &[u8], first: usize, count: usize, owner: usize, w: usize) -> usize
+    requires { ⌜ first + count ≤ length (now slots) / slotBytes ⌝ }
+    ensures { λ r. ⌜ r ≡ metFirst w (board (now (slots .entry)) first count owner) count ⌝ }
+{
+    if count == 0 {
+        return w;
+    }
+    let last = records::board::slot_at(slots, first, count - 1);
+    if last.owner == owner {
+        if last.end == w {
+            return 0;
+        }
+    }
+    w
 }
 
 // The usable ticks of the owner's slots on a board as runs. Slots that touch join; another owner's slot is passed by.
@@ -47,12 +72,14 @@ pub fn table(
 {
     let mut n = 0;
     let mut at = 0;
+    let mut met = met_first(slots, first, count, owner, w);
     let mut i = 0;
     while i < count {
         let s = records::board::slot_at(slots, first, i);
         if s.owner == owner {
-            n = slot(runs, n, at, s);
+            n = slot(runs, n, at, opens(s.start, s.loss, met), s.end);
             at = s.end;
+            met = s.end;
         }
         i += 1;
     }
@@ -66,34 +93,74 @@ pub fn free(mark: u8) -> usize
     if mark == 1 { 1 } else { 0 }
 }
 
-// 1 for a free mark with fewer than j free ones before it, 0 for any other.
-fn given(mark: u8, seen: usize, j: usize) -> usize
-    ensures { λ r. ⌜ r ≡ bit (eqb mark 1 && ltb seen j) ⌝ }
+// Whether a mark is free and has fewer than j free ones before it.
+fn given(mark: u8, seen: usize, j: usize) -> bool
+    ensures { λ r. ⌜ r ≡ (eqb mark 1 && ltb seen j) ⌝ }
 {
-    if mark == 1 {
-        if seen < j {
-            return 1;
-        }
-    }
-    0
+    mark == 1 && seen < j
 }
 
-// The ticks of a grant of the first j free slots, each of v ticks, as runs.
-pub fn grid(marks: &[u8], v: usize, j: usize, runs: &mut [u16]) -> usize
-    requires { ⌜ GridFits (now marks) v (now runs) ⌝ }
-    ensures { λ r. ⌜ LaidIn (now (runs .entry)) (now (runs .exit)) r (length (now (marks .entry)) * v) (gridTicks (length (now (marks .entry))) v (first (freeOf (now (marks .entry))) j)) ⌝ }
+// Where a grant's first slot is met as the wheel turns: by its last one, if that is granted, too. It is where all free ones are and it is free.
+fn met_granted(marks: &[u8], g: Grid, all: usize, j: usize) -> usize
+    requires { ⌜ (0 < length (now marks) * g .v) × (length (now marks) * g .v ≤ mostTicks) ⌝ }
+    requires { ⌜ all ≡ number (freeOf (now marks)) (length (now marks)) ⌝ }
+    ensures { λ r. ⌜ r ≡ metFirst (length (now (marks .entry)) * g .v) (grid (length (now (marks .entry))) (g .v) (g .loss) (first (freeOf (now (marks .entry))) j)) (length (now (marks .entry))) ⌝ }
+{
+    let w = marks.len() * g.v;
+    if marks[marks.len() - 1] == 1 {
+        if all <= j {
+            return 0;
+        }
+    }
+    w
+}
+
+// The end of the slots that are granted one behind the other from slot i on, `seen` before them.
+fn row(marks: &[u8], i: usize, seen: usize, j: usize) -> usize
+    requires { ⌜ (i ≤ length (now marks)) × (seen ≤ i) ⌝ }
+    ensures { λ r. ⌜ WholeRow (now (marks .entry)) i seen j r ⌝ }
+{
+    let mut k = i;
+    while k < marks.len() {
+        if given(marks[k], seen + (k - i), j) {
+            k += 1;
+        } else {
+            return k;
+        }
+    }
+    k
+}
+
+// Past slot k, if there is one: behind a row of granted slots it isn't granted.
+fn past(k: usize, n: usize) -> usize
+    requires { ⌜ k ≤ n ⌝ }
+    ensures { λ r. ⌜ Past k n r ⌝ }
+{
+    if k < n { k + 1 } else { k }
+}
+
+// The ticks of a grant of the first j free slots, of `all` that are free, as runs. Granted slots that stand one behind the other are laid out as one.
+pub fn grid(marks: &[u8], g: Grid, all: usize, j: usize, runs: &mut [u16]) -> usize
+    requires { ⌜ GridFits (now marks) g all (now runs) ⌝ }
+    ensures { λ r. ⌜ LaidIn (now (runs .entry)) (now (runs .exit)) r (length (now (marks .entry)) * g .v) (gridTicks (length (now (marks .entry))) (g .v) (g .loss) (first (freeOf (now (marks .entry))) j)) ⌝ }
 {
     let mut n = 0;
     let mut at = 0;
+    let mut met = met_granted(marks, g, all, j);
     let mut seen = 0;
     let mut i = 0;
     while i < marks.len() {
-        let mark = marks[i];
-        let end = at + v;
-        n = span(runs, n, at, end, given(mark, seen, j));
-        seen += free(mark);
-        at = end;
-        i += 1;
+        if given(marks[i], seen, j) {
+            let k = row(marks, i + 1, seen + 1, j);
+            let end = k * g.v;
+            n = slot(runs, n, at, opens(i * g.v, g.loss, met), end);
+            at = end;
+            met = end;
+            seen += k - i;
+            i = past(k, marks.len());
+        } else {
+            i += 1;
+        }
     }
-    n
+    span(runs, n, at, marks.len() * g.v, 0)
 }

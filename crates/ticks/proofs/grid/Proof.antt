@@ -1,59 +1,134 @@
--- `ticks::grid` meets its contract. The loop's invariant: the slots before slot i are laid out, and `seen` of them are free.
--- The measure is what is left of the slots. The laws are in proofs/Marks.antt. Assumes nothing.
+-- `ticks::grid` meets its contract. The loop's invariant: the slots before slot i are laid out, `seen` of them are granted, and slot i is met at
+-- `met`. The measure is what is left of the slots. The laws are in proofs/Marks.antt and proofs/Laying.antt. Assumes nothing.
+use mathlib.Core.Path.{sym, _∙_}
 use Prim.Native.Nat.{_-_}
 use native.Mathlib.Omega.{arith}
 use lib.ListN.{length}
-use Rattle.rules.proofs.Sums.{bit-le}
-use Rattle.ticks.proofs.Marks.{Gridding, gridding-start, grid-inside, grid-room, grid-seen, grid-more, grid-end}
+use Rattle.rules.proofs.Sums.{number-le}
+use Rattle.ticks.specs.Ticks.{freeOf}
+use Rattle.ticks.proofs.Marks.{Gridding, gridding-start, Granting, row-inside, past-low, slots-inside, grid-more, grid-order, grid-next, grid-skip, grid-end}
+use Rattle.ticks.proofs.Laying.{laying-room, laying-inside}
 use Rattle.ticks.proofs.grid.Statement.{statement}
 use Rattle.ticks.proofs.grid.Tie as tie
 
 abbrev Inv-loop : tie.InvT-loop
-Inv-loop marks v j runs₀ n₀ at₀ seen₀ i₀ runs n at seen i = Gridding marks v j runs₀ runs n at seen i
+Inv-loop marks g all j runs₀ n₀ at₀ met₀ seen₀ i₀ runs n at met seen i = Gridding marks g all j runs₀ runs n at met seen i
 
 abbrev μ-loop : tie.MeasureT-loop
-μ-loop marks v j runs₀ n₀ at₀ seen₀ i₀ runs n at seen i = length marks - i
+μ-loop marks g all j runs₀ n₀ at₀ met₀ seen₀ i₀ runs n at met seen i = length marks - i
+
+met-granted-requires : tie.Need-met-granted-requires Inv-loop μ-loop
+met-granted-requires c κs = let fits = c .before .before .pre in ((fits .some, fits .most), fits .free)
 
 loop-holds : tie.Need-loop-holds Inv-loop μ-loop
-loop-holds c = gridding-start _ _ _ _ (c .before .before .pre)
+loop-holds c = gridding-start _ _ _ _ _ _ (c .before .before .before .pre) (c .met-granted .ensures)
 
-add-end : tie.Need-add-end Inv-loop μ-loop
-add-end c = omega (arith, grid-inside _ _ _ _ _ _ _ _ _ (c .before .before .loop .inv) (omega arith))
+abbrev at-loop : tie.After-row Inv-loop μ-loop → tie.At-loop Inv-loop μ-loop
+at-loop c = c .before .before .before .before .before
 
-given-requires : tie.Need-given-requires Inv-loop μ-loop
-given-requires c κs = tt
+abbrev start : tie.After-row Inv-loop μ-loop → tie.Start Inv-loop μ-loop
+start c = at-loop c .before .before .before .before
 
-span-requires : tie.Need-span-requires Inv-loop μ-loop
-span-requires c κs =
-    let inv = c .before .before .before .before .loop .inv in
-    let room = grid-room _ _ _ _ _ _ _ _ _ inv (omega arith) in
-    let inside = grid-inside _ _ _ _ _ _ _ _ _ inv (omega arith) in
-    (room, omega arith, omega (arith, inv .fits .most), rw (c .given .ensures) (bit-le _))
+-- What is known behind the row of granted slots.
+granting :
+    (c : tie.After-row Inv-loop μ-loop)
+    → Granting (start c .args .marks .now) (start c .args .g) (start c .args .all) (start c .args .j) (start c .args .runs .now)
+    (at-loop c .loop .runs) (at-loop c .loop .n) (at-loop c .loop .at) (at-loop c .loop .met) (at-loop c .loop .seen) (at-loop c .loop .i)
+    (c .row .result)
+granting c =
+    let given = c .before in
+    let asked = given .before in
+    let test = asked .before .before in
+    record {
+      inv = test .before .loop .inv;
+      less = test .loop-test .taken;
+      given = sym (asked .given .ensures) ∙ given .if1 .taken;
+      whole = c .row .ensures;
+    }
 
-free-requires : tie.Need-free-requires Inv-loop μ-loop
-free-requires c κs = tt
+add-row-2 : tie.Need-add-row-2 Inv-loop μ-loop
+add-row-2 c =
+    let test = c .before .before .before in
+    let inv = test .before .loop .inv in
+    let marks = test .before .before .before .before .before .args .marks .now in
+    omega (arith, inv .few, number-le (freeOf marks) (test .before .loop .i))
+
+row-requires : tie.Need-row-requires Inv-loop μ-loop
+row-requires c κs =
+    let test = c .before .before .before in
+    let inv = test .before .loop .inv in
+    let marks = test .before .before .before .before .before .args .marks .now in
+    omega (arith, inv .few, number-le (freeOf marks) (test .before .loop .i))
+
+mul-end : tie.Need-mul-end Inv-loop μ-loop
+mul-end c = record { fits = omega (arith, slots-inside _ _ _ _ _ _ _ _ _ _ _ _ (granting (c .before)) .1) }
+
+mul-opens : tie.Need-mul-opens Inv-loop μ-loop
+mul-opens c =
+    record { fits = omega (arith, slots-inside _ _ _ _ _ _ _ _ _ _ _ _ (granting (c .before .before .before)) .0) }
+
+opens-requires : tie.Need-opens-requires Inv-loop μ-loop
+opens-requires c κs = slots-inside _ _ _ _ _ _ _ _ _ _ _ _ (granting (c .before .before .before)) .0
+
+slot-requires : tie.Need-slot-requires Inv-loop μ-loop
+slot-requires c κs =
+    let known = granting (c .before .before .before .before) in
+    let order = grid-order _ _ _ _ _ _ _ _ _ _ _ _ known _ (c .opens .ensures) in
+    (grid-more _ _ _ _ _ _ _ _ _ _ _ _ known, order .0, order .1, order .2)
+
+abbrev drawn : tie.After-slice-known2 Inv-loop μ-loop → tie.After-row Inv-loop μ-loop
+drawn c = c .before .before .before .before .before .before .before
+
+sub-seen : tie.Need-sub-seen Inv-loop μ-loop
+sub-seen c = omega (arith, row-inside _ _ _ _ _ _ _ _ _ _ _ _ (granting (drawn c)) .0)
 
 add-seen : tie.Need-add-seen Inv-loop μ-loop
 add-seen c =
-    let laid = c .before .before .before in
-    let inv = laid .before .before .before .before .before .loop .inv in
-    omega (arith, grid-seen _ _ _ _ _ _ _ _ _ inv (omega arith) _ (c .free .ensures))
+    let known = granting (drawn c) in
+    let inside = row-inside _ _ _ _ _ _ _ _ _ _ _ _ known in
+    omega (arith, inside .0, inside .1, known .inv .few, number-le (freeOf (start (drawn c) .args .marks .now)) (at-loop (drawn c) .loop .i))
+
+past-requires : tie.Need-past-requires Inv-loop μ-loop
+past-requires c κs = row-inside _ _ _ _ _ _ _ _ _ _ _ _ (granting (drawn c)) .1
+
+loop-less : tie.Need-loop-less Inv-loop μ-loop
+loop-less c =
+    let inside = row-inside _ _ _ _ _ _ _ _ _ _ _ _ (granting (drawn (c .before))) in
+    omega (arith, inside .0, inside .1, past-low _ _ _ (c .past .ensures))
 
 loop-again : tie.Need-loop-again Inv-loop μ-loop
 loop-again c =
     let laid = c .before .before .before in
-    let given = laid .before in
-    let inv = given .before .before .before .before .loop .inv in
-    grid-more _ _ _ _ _ _ _ _ _ inv (omega arith) _ _ _ _ (given .given .ensures) (c .free .ensures) (laid .span .ensures)
+    grid-next _ _ _ _ _ _ _ _ _ _ _ _ (granting (drawn (c .before))) _ (laid .before .opens .ensures) _ _ (laid .slot .ensures) _ (c .past .ensures)
+
+loop-again-2 : tie.Need-loop-again-2 Inv-loop μ-loop
+loop-again-2 c =
+    let asked = c .before in
+    let test = asked .before .before in
+    grid-skip _ _ _ _ _ _ _ _ _ _ _ (test .before .loop .inv) (test .loop-test .taken) (sym (asked .given .ensures) ∙ c .if1 .left)
+
+mul-span : tie.Need-mul-span Inv-loop μ-loop
+mul-span c = record { fits = omega (arith, c .before .before .before .loop .inv .fits .most) }
+
+span-requires : tie.Need-span-requires Inv-loop μ-loop
+span-requires c κs =
+    let inv = c .before .before .before .loop .inv in
+    omega (arith, laying-room _ _ _ _ _ _ _ _ (inv .laying), laying-inside _ _ _ _ _ _ _ _ (inv .laying), inv .fits .most)
 
 same-length : tie.Need-same-length Inv-loop μ-loop
-same-length c = c .before .loop .inv .come .long
+same-length c =
+    let last = c .before .before in
+    last .span .ensures .long ∙ last .before .before .before .before .loop .inv .laying .come .long
 
 returns : tie.Need-returns Inv-loop μ-loop
-returns c = grid-end _ _ _ _ _ _ _ _ _ (c .before .loop .inv) (omega arith)
+returns c =
+    let last = c .before .before in
+    let test = last .before .before .before in
+    grid-end _ _ _ _ _ _ _ _ _ _ _ (test .before .loop .inv) (test .loop-test .left) _ _ (last .span .ensures)
 
 pub grid-spec : {M : Type 1} → statement M
 grid-spec =
     tie.close
-    (tie.spec Inv-loop μ-loop loop-holds (λ c. omega arith) add-end given-requires span-requires free-requires add-seen
-    (λ c. omega arith) (λ c. omega arith) loop-again same-length returns)
+    (tie.spec Inv-loop μ-loop met-granted-requires loop-holds (λ c. omega arith) (λ c κs. tt) (λ c. omega arith) add-row-2
+    row-requires mul-end mul-opens opens-requires slot-requires sub-seen add-seen past-requires loop-less loop-again (λ c. omega arith)
+    (λ c. omega arith) loop-again-2 mul-span span-requires same-length returns)

@@ -8,7 +8,7 @@ returns : tie.Need-returns
 returns c =
     let run = c .before .before in
     let gap = run .before .before .before .before in
-    span-slot (gap .span .ensures) (run .span2 .ensures) (gap .before .before .before .pre .2)
+    span-slot (gap .span .ensures) (run .span2 .ensures)
 
 pub slot-spec : {M : Type 1} → statement M
 slot-spec =

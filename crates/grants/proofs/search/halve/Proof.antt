@@ -3,7 +3,8 @@
 use mathlib.Core.Path.{_≡_}
 use Prim.Native.Nat.{_-_}
 use lib.ListN.{length}
-use Rattle.limits.specs.Limits.{mostGranted, asked}
+use Rattle.limits.specs.Limits.{asked}
+use Rattle.room.specs.Room.{fewEdges}
 use Rattle.grants.specs.Grants.{Halving}
 use Rattle.grants.proofs.Halves.{halve-few, halve-down, halve-up}
 use native.Mathlib.Omega.{arith}
@@ -11,10 +12,10 @@ use Rattle.grants.proofs.search.halve.Statement.{statement}
 use Rattle.grants.proofs.search.halve.Tie as tie
 
 abbrev Inv-loop : tie.InvT-loop
-Inv-loop marks v task low high runs₀ below₀ above₀ runs below above = (length runs ≡ mostGranted) × Halving marks v (asked task) below above
+Inv-loop marks grid task all runs₀ below₀ above₀ runs below above = (length runs ≡ fewEdges) × Halving marks grid (asked task) below above
 
 abbrev μ-loop : tie.MeasureT-loop
-μ-loop marks v task low high runs₀ below₀ above₀ runs below above = above - below
+μ-loop marks grid task all runs₀ below₀ above₀ runs below above = above - below
 
 loop-holds : tie.Need-loop-holds Inv-loop μ-loop
 loop-holds c = let start = c .before .before in (start .pre .0 .2, start .pre .1)
@@ -29,7 +30,7 @@ firm-requires : tie.Need-firm-requires Inv-loop μ-loop
 firm-requires c κs =
     let loop = c .before .before in
     let start = loop .before .before .before in
-    (start .pre .0 .0, start .pre .0 .1, loop .loop .inv .0)
+    (start .pre .0 .0, start .pre .0 .1, loop .loop .inv .0, start .pre .0 .3)
 
 loop-again : tie.Need-loop-again Inv-loop μ-loop
 loop-again c =

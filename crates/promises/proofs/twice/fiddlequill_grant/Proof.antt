@@ -9,7 +9,7 @@ returns c =
     let first = c .before .before .before .before .before .before in
     let second = c .before .before in
     let start = c .before .before .before .before .before .before .before .before .before .before in
-    packed-settled _ _ _ _ _ _ _ _ _ _ _ (rw (start .pre) at (first .fiddlequill-grant .ensures)) (second .fiddlequill-grant2 .ensures)
+    packed-settled _ _ _ _ _ _ _ _ _ _ _ _ (rw (start .pre) at (first .fiddlequill-grant .ensures)) (second .fiddlequill-grant2 .ensures)
 
 pub fiddlequill-grant-spec : {M : Type 1} → statement M
 fiddlequill-grant-spec =

@@ -9,7 +9,7 @@ returns c =
     let first = c .before .before .before .before .before .before in
     let second = c .before .before in
     let start = c .before .before .before .before .before .before .before .before .before .before in
-    grant-settled _ _ _ _ _ _ _ _ _ _ _ _ _ (rw (start .pre) at (first .grant .ensures)) (second .grant2 .ensures)
+    grant-settled _ _ _ _ _ _ _ _ _ _ _ _ _ _ (rw (start .pre) at (first .grant .ensures)) (second .grant2 .ensures)
 
 pub grant-spec : {M : Type 1} → statement M
 grant-spec =

@@ -13,7 +13,7 @@ returns c =
       start = end .before .four .ensures i;
       end = end .four2 .ensures i;
       owner = owner .two .ensures i;
-      spare = c .two2 .ensures i;
+      loss = c .two2 .ensures i;
     }
 
 pub slot-at-spec : {M : Type 1} → statement M
