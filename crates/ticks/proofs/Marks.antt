@@ -1,5 +1,5 @@
 -- A grant's slots are a table in the order of time, and which of them the marks name. Assumes nothing.
-use mathlib.Core.Path.{_≡_, refl, sym, ap, _∙_}
+use mathlib.Core.Path.{_≡_, sym, ap, _∙_}
 use mathlib.Core.Logic.{⊎-elim}
 use mathlib.Core.Bool.{true, false, cond, _&&_, and-true, and-false}
 use mathlib.Core.List.{List}
@@ -18,7 +18,7 @@ use Rattle.limits.specs.Limits.{mostTicks}
 use Rattle.limits.specs.declared.Grid.{Grid}
 use Rattle.runs.specs.Runs.{LaidIn}
 use Rattle.ticks.specs.Ticks.{Span, Slotted, metFirst, metAt, opensAt, freeOf, GivenRow, WholeRow, Past, GridFits}
-use Rattle.ticks.proofs.Order.{ended, Good, Ordered}
+use Rattle.ticks.proofs.Order.{ended, Ordered}
 use Rattle.ticks.proofs.Laying.{Lays, Row, Laying, laying-start, laying-more, laying-order, laying-next, laying-skip, laying-end}
 
 -- ---- a mark and its bit

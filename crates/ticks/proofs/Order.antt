@@ -11,7 +11,6 @@ use native.Mathlib.Omega.{arith}
 use native.Mathlib.Decide.{ℕ-discrete}
 use lib.Dec.{leb, ltb, eqb}
 use borrow.Author.Tests.{le-leb, lt-leb, lt-ltb, le-ltb, eq-eqb, ne-eqb, eqb-true}
-use Rattle.rules.specs.Sums.{Subset}
 use Rattle.rules.specs.Usable.{Slot, Table, covers, touches, opens, usable}
 use Rattle.rules.proofs.Sums.{le-or-lt, and-left, and-right, and-both, any-intro, any-none}
 use Rattle.ticks.specs.Ticks.{metFirst, metAt, opensAt}
