@@ -1,16 +1,16 @@
 -- docs/RULES.md, "Granting slots": a whole call. Definitions only.
 --
---     badMark l                    12 for a mark that is neither 0 nor 1
+--     badMark l                         12 for a mark that is neither 0 nor 1
 --     grantRefusal l v loss e D h m k   12, then 6 to 10, the first that applies
---     checked l v loss e D h m k   the grid and the task that granting goes on with, or the refusal
---     Gridded l g                  what refusal 12 has shown of the marks and the grid
---     askedFor e D h m k           the rules' task
---     Marked l j after             the first j free slots have mark 2, the others stay
---     firstTicks l g j             the usable ticks of the first j free slots
---     FirmSays l g t j r           r says whether the first j free slots are firm
---     Halving l g t a b            the first b free slots are firm, and no number below a is
---     Searched l g t r             r is the grant, or says that no choice of the free slots is firm
---     GrantCall ..                 marks before and after, the numbers handed over, refusal number n and j
+--     checked l v loss e D h m k        the grid and the task that granting goes on with, or the refusal
+--     Gridded l g                       what refusal 12 has shown of the marks and the grid
+--     askedFor e D h m k                the rules' task
+--     Marked l j after                  the first j free slots have mark 2, the others stay
+--     firstTicks l g j                  the usable ticks of the first j free slots
+--     FirmSays l g t j r                r says whether the first j free slots are firm
+--     Halving l g t a b                 the first b free slots are firm, and no number below a is
+--     Searched l g t r                  r is the grant, or says that no choice of the free slots is firm
+--     GrantCall ..                      marks before and after, the numbers handed over, refusal number n and j
 use mathlib.Core.Path.{_≡_}
 use mathlib.Core.Logic.{_⊎_}
 use mathlib.Core.Bool.{Bool, true, false, cond}
