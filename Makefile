@@ -4,6 +4,7 @@ INCLUDE := include
 PREFIX ?= /usr/local
 DESTDIR ?=
 SITE ?= examples/site
+SEED ?= $(shell od -An -N4 -tu4 /dev/urandom | tr -d ' ')
 CFLAGS := -std=c11 -Wall -Wextra -Wpedantic -Werror -O2
 CPPFLAGS := -I$(INCLUDE) -Ihost
 HEADER := $(INCLUDE)/fiddlequill.h
@@ -50,14 +51,16 @@ BENCH_CC := $(if $(BENCH_EMULATED),$(CC),$(shell command -v clang >/dev/null 2>&
 BENCH_CFLAGS := -std=c11 -Wall -Wextra -Wpedantic -Werror -O3
 BENCH_MACHINE := $(shell uname -sm)$(shell lscpu 2>/dev/null | sed -n 's/^Model name: */, /p')
 
-SECOND := definition inputs tally hand second
+SECOND := definition inputs tally hand second files
 ASKED := definition inputs questions asked files
 SANITIZED_USERS := build/sanitized/records build/sanitized/desk build/sanitized/slider
+MEMCHECK := valgrind -q --error-exitcode=9 --leak-check=full
+MEMCHECKED := $(addprefix build/memcheck/,records desk slider asked questions sheet)
 BENCH := bench report workload plan fp doubling remainder files
 PROGRAMS := build/second build/asked build/stack build/halfway build/records build/desk build/slider \
 	build/bench$(BENCH_KIND)
 
-.PHONY: help kit tools test lib install sheet host header-check host-test soak sanitize bench bench-instructions clean always
+.PHONY: help kit tools test lib install sheet host header-check host-test soak sanitize memcheck valgrind bench bench-instructions clean always
 
 help:
 	@echo 'make test                 prove, try the mistakes, run the host programs; last line: N passed, 0 failed'
@@ -65,8 +68,9 @@ help:
 	@echo 'make lib                  header and static library into build/'
 	@echo 'make install PREFIX=dir   header, library and pkg-config file'
 	@echo 'make host-test            the C programs alone'
-	@echo 'make soak                 five million inputs against the second program'
+	@echo 'make soak [SEED=number]   five million inputs against the second program'
 	@echo 'make sanitize             the C programs under address and undefined-behaviour checks'
+	@echo 'make memcheck             the C and the proved programs under valgrind, which sees into the machine code of the library'
 	@echo 'make bench                speed beside the published method; bench-instructions counts instructions'
 
 test:
@@ -106,10 +110,12 @@ install: lib
 
 # ---- the sheet
 
-# A site is a folder with tasks.bin and slots.bin, or with tasks.csv and slots.csv. Standard output has the sheet alone.
+# A site is a folder with tasks.bin and slots.bin, or with tasks.csv and slots.csv. Standard output has the sheet alone. The folder's name
+# goes by the environment, whatever characters it has.
+sheet: export SHEET_SITE = $(SITE)
 sheet:
 	@$(MAKE) -s build/sheet build/records >&2
-	@host/sheet.sh build/sheet build/records '$(SITE)' build/sheet-site
+	@host/sheet.sh build/sheet build/records "$$SHEET_SITE" build/sheet-site
 
 # A proved program, for this machine to start.
 build/sheet build/questions: build/%: $(RATTLE) | kit tools
@@ -149,10 +155,11 @@ host-test: host build/sheet build/questions
 	build/stack
 	rm -rf build/asked-room && mkdir build/asked-room
 	build/asked '$(CURDIR)/build/questions' build/asked-room
+	host/complaints-test.sh build build/questions
 	host/halves.sh build/second $(INPUTS) 20260
 
 soak: build/second
-	build/second 5000000 $$(od -An -N4 -tu4 /dev/urandom | tr -d ' ')
+	build/second 5000000 $(SEED)
 
 sanitize: build/questions build/sanitized/second build/sanitized/asked $(SANITIZED_USERS)
 	host/records-test.sh build/sanitized/records
@@ -163,6 +170,19 @@ sanitize: build/questions build/sanitized/second build/sanitized/asked $(SANITIZ
 	rm -rf build/sanitized/asked-room && mkdir build/sanitized/asked-room
 	build/sanitized/asked '$(CURDIR)/build/questions' build/sanitized/asked-room
 	build/sanitized/second 20000
+
+memcheck: valgrind $(MEMCHECKED) build/memcheck/second
+	$(call example,site,build/memcheck)
+	$(call example,board,build/memcheck)
+	host/sheet.sh build/memcheck/sheet build/memcheck/records examples/board build/memcheck/room >build/memcheck/sheet.out
+	diff examples/board/sheet.expected build/memcheck/sheet.out
+	rm -rf build/memcheck/asked-room && mkdir build/memcheck/asked-room
+	build/memcheck/asked '$(CURDIR)/build/memcheck/questions' build/memcheck/asked-room
+	$(MEMCHECK) build/memcheck/second 20000
+
+valgrind:
+	@test -z '$(EMULATOR)' || { echo 'make memcheck: the library is x86-64 code, and valgrind takes that on x86-64 alone' >&2; exit 1; }
+	@command -v valgrind >/dev/null || { echo 'make memcheck: no command valgrind on the PATH' >&2; exit 1; }
 
 bench: build/bench$(BENCH_KIND)
 	@test -z '$(BENCH_EMULATED)' || { echo 'make bench: this machine runs the archive in an emulator, and times there say nothing; BENCH_ARCHIVE=file measures one for this machine' >&2; exit 1; }
@@ -181,7 +201,7 @@ build/second: $(SECOND:%=build/host/%.o) $(ARCHIVE)
 build/asked: $(ASKED:%=build/host/%.o)
 	$(call link,)
 
-build/stack: build/host/stack.o $(ARCHIVE)
+build/stack: build/host/stack.o build/host/files.o $(ARCHIVE)
 	$(call link,-pthread)
 
 build/halfway: build/host/halfway.o build/host/files.o
@@ -207,6 +227,19 @@ build/sanitized/asked: $(ASKED:%=build/sanitized/%.o)
 
 $(SANITIZED_USERS): build/sanitized/%: build/sanitized/%.o build/sanitized/files.o $(ARCHIVE)
 	$(call link,$(SANITIZE))
+
+# Its guards can't even be read.
+build/memcheck/second: $(patsubst %,build/host/%.o,$(filter-out second,$(SECOND))) build/memcheck/second.o $(ARCHIVE)
+	$(call link,)
+
+build/memcheck/second.o: second.c $(HEADER) $(wildcard host/*.h) | tools
+	@mkdir -p $(@D)
+	$(CC) $(CFLAGS) -DMEMCHECK $(CPPFLAGS) -c $< -o $@
+
+# A script that starts a program under valgrind.
+$(MEMCHECKED): build/memcheck/%: build/%
+	@mkdir -p $(@D)
+	@printf '#!/bin/sh\nexec $(MEMCHECK) "%s" "$$@"\n' '$(CURDIR)/$<' >$@ && chmod +x $@
 
 # The definition adds up cells by the billion; let the compiler take several at once.
 build/host/definition.o build/sanitized/definition.o: CFLAGS += -O3

@@ -897,7 +897,11 @@ static int write_results(const char *folder, const char *name, void (*print)(FIL
         return -1;
     }
     print(out, results);
-    return fclose(out);
+    bool failed = ferror(out) != 0;
+    if (fclose(out) == 0 && !failed)
+        return 0;
+    perror(path);
+    return -1;
 }
 
 static int run(const char *folder)
@@ -918,7 +922,7 @@ static int run(const char *folder)
     if (write_results(folder, "RESULTS.md", print_report, &results) != 0 ||
         write_results(folder, "results.csv", print_csv, &results) != 0)
         return 2;
-    return differences(&results) == 0 ? 0 : 1;
+    return exit_status("bench", differences(&results) == 0);
 }
 
 /* ---- once ---- */
@@ -949,7 +953,7 @@ static int once(struct cell cell)
            "; so many allowed: firm %" PRIu32 "\n",
            worst, fiddlequill_value(count), fiddlequill_value(grant.result),
            get_number(whole.reply + (SIGNS - 1) * FIDDLEQUILL_ANSWER_BYTES + 8, 4), fiddlequill_value(quick.result));
-    return same_answer(&doubling, &ours) && margin_agrees(&ours) && quick.result == 1 ? 0 : 1;
+    return exit_status("bench", same_answer(&doubling, &ours) && margin_agrees(&ours) && quick.result == 1);
 }
 
 int main(int argc, char **argv)

@@ -199,45 +199,96 @@ static double most_of_tables(const struct quick_row *row)
     return most;
 }
 
-static void print_goal(FILE *out, const char *what, bool at_least, double goal, double measured)
+/* Who asked for what was not to be passed: the first engine, the one over late runs, or a request by its number. */
+static void print_goal(FILE *out, const char *whose, const char *what, bool at_least, double goal, double measured)
 {
     bool reached = at_least ? measured >= goal : measured <= goal;
-    fprintf(out, "| %s | %s %g | %.2f | %s |\n", what, at_least ? "at least" : "at most", goal, measured,
+    fprintf(out, "| %s | %s | %s %g | %.2f | %s |\n", whose, what, at_least ? "at least" : "at most", goal, measured,
             reached ? "reached" : "missed");
 }
 
-static void print_goal_at(FILE *out, const char *ratio, const struct cell *cell, const char *mark, bool at_least,
-                          double goal, double measured)
+static void print_goal_at(FILE *out, const char *whose, const char *ratio, const struct cell *cell, const char *mark,
+                          bool at_least, double goal, double measured)
 {
     char what[80];
     snprintf(what, sizeof what, "%s, %" PRIu32 " / %" PRIu32 " / %" PRIu32 "%s", ratio, cell->w, cell->slots, cell->k,
              mark);
-    print_goal(out, what, at_least, goal, measured);
+    print_goal(out, whose, what, at_least, goal, measured);
 }
 
-static void print_cell_goal(FILE *out, const struct results *results, const char *ratio, struct cell cell,
-                            bool at_least, double goal, double (*measured)(const struct row *))
+static const char first_engine[] = "first engine", late_runs[] = "late runs";
+
+static const struct {
+    const char *whose;
+    struct cell cell;
+    double least;
+} fp_goals[] = {{first_engine, {55, 4, 10}, 12},       {first_engine, {1300, 4, 125}, 200},
+                {first_engine, {1300, 4, 1024}, 6000}, {first_engine, {4096, 64, 1024}, 80000},
+                {late_runs, {16384, 1, 10}, 150},      {late_runs, {16384, 1, 125}, 150},
+                {late_runs, {16384, 4, 10}, 300}};
+
+static void print_fp_goals(FILE *out, const struct results *results)
 {
-    const struct row *row = row_of(results, cell);
-    print_goal_at(out, ratio, &cell, row->way == FP_SAMPLE ? " (~)" : "", at_least, goal, measured(row));
+    print_goal(out, first_engine, "FP ÷ ours, the least of all cells", true, 7, least_fp_ratio(results));
+    for (size_t i = 0; i < sizeof fp_goals / sizeof *fp_goals; i++) {
+        const struct row *row = row_of(results, fp_goals[i].cell);
+        print_goal_at(out, fp_goals[i].whose, "FP ÷ ours", &row->cell, row->way == FP_SAMPLE ? " (~)" : "", true,
+                      fp_goals[i].least, fp_ratio(row));
+    }
 }
 
+static const struct {
+    struct cell cell;
+    double most;
+} doubling_goals[] = {{{4096, 1, 10}, 0.1},    {{4096, 4, 10}, 0.1},   {{16384, 1, 10}, 0.05}, {{16384, 4, 10}, 0.05},
+                      {{16384, 16, 10}, 0.05}, {{16384, 1, 125}, 0.1}, {{16384, 4, 125}, 0.1}, {{16384, 16, 125}, 0.1}};
+
+static void print_doubling_goals(FILE *out, const struct results *results)
+{
+    print_goal(out, first_engine, "ours ÷ doubling, the most for w below 700", false, 1,
+               most_doubling_ratio(results, 0, 699));
+    print_goal(out, first_engine, "ours ÷ doubling, the most for w from 700", false, 0.6,
+               most_doubling_ratio(results, 700, UINT32_MAX));
+    for (size_t i = 0; i < sizeof doubling_goals / sizeof *doubling_goals; i++)
+        print_goal_at(out, late_runs, "ours ÷ doubling", &doubling_goals[i].cell, "", false, doubling_goals[i].most,
+                      doubling_ratio(row_of(results, doubling_goals[i].cell)));
+}
+
+static double most_growth(const struct results *results, enum growth_in in)
+{
+    double most = 0;
+    for (size_t i = 0; i < results->growths; i++)
+        if (results->growth[i].in == in && results->growth[i].ratio > most)
+            most = results->growth[i].ratio;
+    return most;
+}
+
+/* Of an engine that takes the same time for few slots and strips as for many. The one over late runs takes less. */
+static void print_growth_goals(FILE *out, const struct results *results)
+{
+    print_goal(out, first_engine, "64 slots ÷ 1, the most for w from 4,096", false, 1.2,
+               most_growth(results, IN_SLOTS));
+    print_goal(out, first_engine, "k 1,024 ÷ k 10, the most for w 16,384", false, 2.5, most_growth(results, IN_STRIPS));
+    print_goal(out, first_engine, "w 16,384 ÷ w 4,096, the most", false, 6, most_growth(results, IN_WHEEL));
+}
+
+/* A request says how much longer a call may take than before it; these bounds are No. 7's and No. 5's. */
 static void print_before_goals(FILE *out, const struct results *results)
 {
     if (results->before_slot_bytes == 0)
         return;
-    print_goal(out, "judging: ours ÷ before, the most of all cells", false, 1.05,
+    print_goal(out, "No. 7", "judging: ours ÷ before, the most of all cells", false, 1.05,
                most_of_rows(&results->row->before, results->rows, sizeof *results->row));
-    print_goal(out, "counting: ours ÷ before, the most of all cells", false, 1.1,
+    print_goal(out, "No. 5", "counting: ours ÷ before, the most of all cells", false, 1.1,
                most_of_rows(&results->count->before, results->counts, sizeof *results->count));
-    print_goal(out, "grants: ours ÷ before, the most of all", false, 1.05,
+    print_goal(out, "No. 7", "grants: ours ÷ before, the most of all", false, 1.05,
                most_of_rows(&results->grant->before, results->grants, sizeof *results->grant));
 }
 
 static void print_board_goal(FILE *out, const struct results *results)
 {
     const struct board_row *row = board_of(results, (struct cell){4096, 4, 125});
-    print_goal_at(out, "a board ÷ own records alone", &row->cell, "", false, 4, board_ratio(row));
+    print_goal_at(out, "No. 5", "a board ÷ own records alone", &row->cell, "", false, 4, board_ratio(row));
 }
 
 /* No row may lose by the one call, and the aim is that each gains. */
@@ -245,9 +296,9 @@ static void print_site_goals(FILE *out, const struct results *results)
 {
     for (size_t i = 0; i < results->sites; i++) {
         const struct site_row *row = &results->site[i];
-        print_goal_at(out, "a site ÷ single calls", &row->cell, "", false, 1, site_ratio(row));
+        print_goal_at(out, "No. 1", "a site ÷ single calls", &row->cell, "", false, 1, site_ratio(row));
     }
-    print_goal(out, "a site ÷ single calls, the most of all (the aim)", false, 0.8, most_site_ratio(results));
+    print_goal(out, "No. 1", "a site ÷ single calls, the most of all (the aim)", false, 0.8, most_site_ratio(results));
 }
 
 /* Judging looks at all offsets: counting from one of them may not take longer. */
@@ -255,7 +306,7 @@ static void print_count_goals(FILE *out, const struct results *results)
 {
     for (size_t i = 0; i < results->counts; i++) {
         const struct count_row *row = &results->count[i];
-        print_goal_at(out, "counting ÷ judging", &row->cell, "", false, 1, judging_ratio(row));
+        print_goal_at(out, "No. 3", "counting ÷ judging", &row->cell, "", false, 1, judging_ratio(row));
     }
 }
 
@@ -264,42 +315,27 @@ static void print_quick_goals(FILE *out, const struct results *results)
 {
     static const struct cell long_wheels[] = {{16384, 1, 10}, {16384, 4, 10}};
     const struct summary firm = sum_up(results, JUST_FIRM, JUST_FIRM), others = sum_up(results, ONE_LESS, NO_DROP);
-    print_goal(out, "quick ÷ judging, the most of all cells, firm", false, 1.15, firm.most);
-    print_goal(out, "quick ÷ judging, the most of all cells, not firm", false, 1.15, others.most);
-    print_goal(out, "quick ÷ judging, the median over tables that aren't firm", false, 0.5, others.median);
+    print_goal(out, "No. 6", "quick ÷ judging, the most of all cells, firm", false, 1.15, firm.most);
+    print_goal(out, "No. 6", "quick ÷ judging, the most of all cells, not firm", false, 1.15, others.most);
+    print_goal(out, "No. 6", "quick ÷ judging, the median over tables that aren't firm", false, 0.5, others.median);
     for (size_t i = 0; i < sizeof long_wheels / sizeof *long_wheels; i++)
-        print_goal_at(out, "quick ÷ judging", &long_wheels[i], ", the most of its tables", false, 0.7,
+        print_goal_at(out, "No. 6", "quick ÷ judging", &long_wheels[i], ", the most of its tables", false, 0.7,
                       most_of_tables(quick_of(results, long_wheels[i])));
 }
 
-static const struct {
-    struct cell cell;
-    double least;
-} fp_goals[] = {{{16384, 1, 10}, 150}, {{16384, 1, 125}, 150}, {{16384, 4, 10}, 300}};
-
-static const struct {
-    struct cell cell;
-    double most;
-} doubling_goals[] = {{{4096, 1, 10}, 0.1},    {{4096, 4, 10}, 0.1},   {{16384, 1, 10}, 0.05}, {{16384, 4, 10}, 0.05},
-                      {{16384, 16, 10}, 0.05}, {{16384, 1, 125}, 0.1}, {{16384, 4, 125}, 0.1}, {{16384, 16, 125}, 0.1}};
-
-static void print_goals(FILE *out, const struct results *r)
+static void print_goals(FILE *out, const struct results *results)
 {
-    fprintf(out, "## Goals\n\n| goal (a cell is w / slots / k) | wanted | measured | |\n|---|---|---:|---|\n");
-    print_goal(out, "FP ÷ ours, the least of all cells", true, 7, least_fp_ratio(r));
-    for (size_t i = 0; i < sizeof fp_goals / sizeof *fp_goals; i++)
-        print_cell_goal(out, r, "FP ÷ ours", fp_goals[i].cell, true, fp_goals[i].least, fp_ratio);
-    print_goal(out, "ours ÷ doubling, the most for w below 700", false, 1.0, most_doubling_ratio(r, 0, 699));
-    print_goal(out, "ours ÷ doubling, the most for w from 700", false, 0.6, most_doubling_ratio(r, 700, UINT32_MAX));
-    for (size_t i = 0; i < sizeof doubling_goals / sizeof *doubling_goals; i++)
-        print_cell_goal(out, r, "ours ÷ doubling", doubling_goals[i].cell, false, doubling_goals[i].most,
-                        doubling_ratio);
-    print_before_goals(out, r);
-    print_board_goal(out, r);
-    print_goal(out, "a grant of up to 64 slots, in judgements, the most", false, 7.5, most_judgements(r));
-    print_site_goals(out, r);
-    print_count_goals(out, r);
-    print_quick_goals(out, r);
+    fprintf(out, "## Goals\n\n| whose | goal (a cell is w / slots / k) | wanted | measured | |\n|---|---|---|---:|---|\n");
+    print_fp_goals(out, results);
+    print_doubling_goals(out, results);
+    print_growth_goals(out, results);
+    print_goal(out, late_runs, "a grant of up to 64 slots, in judgements, the most", false, 7.5,
+               most_judgements(results));
+    print_site_goals(out, results);
+    print_count_goals(out, results);
+    print_board_goal(out, results);
+    print_quick_goals(out, results);
+    print_before_goals(out, results);
 }
 
 /* ---- the report ---- */

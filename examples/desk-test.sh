@@ -1,6 +1,6 @@
 #!/bin/sh
-# What the desk says of bad sites, of an empty one, of tasks whose board is refused, of margins, of shared boards, and of
-# ticks that go to the switch.
+# What the desk says of bad sites, of an output that can't be written, of an empty site, of tasks whose board is refused, of
+# margins, of shared boards, and of ticks that go to the switch.
 # Usage: desk-test.sh DESK RECORDS SITE
 set -u
 program=$1 records=$2 site=$3
@@ -31,6 +31,8 @@ prints 'an empty site' ''
 prints 'an empty site without slots' ''
 printf x >"$folder/slots.bin"
 complains "slots.bin: 1 bytes aren't whole records of 12"
+cp "$site/tasks.bin" "$site/slots.bin" "$folder"
+complains_of_output
 
 # The first lines of refused tasks, by number.
 r3='task 7: refused with 3, first + count goes beyond the last slot record'

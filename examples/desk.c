@@ -12,7 +12,8 @@
  * one that is refused because of its board it says what stands in which record of
  * which file, and whose slot that is. Records are counted from 0, and so are the
  * slots of a board.
- * The exit status is 0 when every task got an answer, refused ones included.
+ * The exit status is 0 when every task got an answer, refused ones included, and
+ * all of it could be printed.
  */
 #include "bytes.h"
 #include "files.h"
@@ -449,5 +450,5 @@ int main(int argc, char **argv)
         status = judge_site(&site);
     free(site.tasks.bytes);
     free(site.slots.bytes);
-    return status == 0 ? 0 : 1;
+    return exit_status("desk", status == 0);
 }

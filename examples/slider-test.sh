@@ -1,5 +1,6 @@
 #!/bin/sh
-# What the slider says of wrong words and bad sites, of values that are refused, and at the ends of its ranges.
+# What the slider says of wrong words and bad sites, of an output that can't be written, of values that are refused, and at the
+# ends of its ranges.
 # Usage: slider-test.sh SLIDER RECORDS SITE
 set -u
 program=$1 records=$2 site=$3
@@ -27,6 +28,7 @@ usage "$site" 1 D 0
 
 complains_of_files 1 e
 cp "$site/tasks.bin" "$folder"
+complains_of_output 1 e
 for id in 4 01x x -1 +1 ' 1' '' 4294967297 18446744073709551617; do
     complains "tasks.bin: no task has the id $id" "$id" e
 done

@@ -15,7 +15,8 @@
  * the slots of the task's board from 0, whoever owns them. Each line is a stretch
  * of values that get the same answer. Every value is asked, so that nothing here
  * relies on a verdict that turns only once.
- * The exit status is 0 when every value got an answer, refused ones included.
+ * The exit status is 0 when every value got an answer, refused ones included, and
+ * all of it could be printed.
  */
 #include "bytes.h"
 #include "files.h"
@@ -192,5 +193,5 @@ int main(int argc, char **argv)
         status = slide_site(&site, argv[2], argv[3], argv[4]);
     free(site.tasks.bytes);
     free(site.slots.bytes);
-    return status == 0 ? 0 : 1;
+    return exit_status("slider", status == 0);
 }

@@ -21,17 +21,37 @@ complains() {
     fi
 }
 
-# complains_of_files [WORD..]: the same of files that are missing, and of records that aren't whole.
+# complains_of_files [WORD..]: the same of files that are missing, that are folders, links in a circle or without an end, and
+# of records that aren't whole.
 complains_of_files() {
     complains 'tasks.bin: No such file' "$@"
     cp "$site/tasks.bin" "$folder"
     complains 'slots.bin: No such file' "$@"
+    mkdir "$folder/slots.bin"
+    complains 'slots.bin: Is a directory' "$@"
+    rmdir "$folder/slots.bin"
+    ln -s slots.bin "$folder/slots.bin"
+    complains 'slots.bin: Too many levels of symbolic links' "$@"
+    ln -sf /dev/zero "$folder/slots.bin"
+    complains 'slots.bin: File too large' "$@"
+    rm "$folder/slots.bin"
     cp "$site/slots.bin" "$folder"
     printf x >>"$folder/slots.bin"
     complains "slots.bin: 37 bytes aren't whole records of 12" "$@"
     cp "$site/slots.bin" "$folder"
     printf x >>"$folder/tasks.bin"
     complains "tasks.bin: 97 bytes aren't whole records of 32" "$@"
+}
+
+# complains_of_output [WORD..]: the program, given these words as well, must fail on a good folder and say why where what it
+# prints can't be written.
+complains_of_output() {
+    tried=$((tried + 2))
+    said="$(basename "$program"): standard output"
+    "$program" "$folder" "$@" >/dev/full 2>"$folder/said" && fail 'a full output: taken'
+    [ "$(cat "$folder/said")" = "$said: No space left on device" ] || fail "a full output: said \"$(cat "$folder/said")\""
+    "$program" "$folder" "$@" >&- 2>"$folder/said" && fail 'a closed output: taken'
+    [ "$(cat "$folder/said")" = "$said: Bad file descriptor" ] || fail "a closed output: said \"$(cat "$folder/said")\""
 }
 
 # tables TASKS SLOTS: the folder becomes the site with these lines, \n between them, in its tables. A slot of three numbers

@@ -9,6 +9,7 @@
  * that it prints. The first difference ends the run with its seed and number;
  * so does, at the end, a class of questions that was never met.
  */
+#define _XOPEN_SOURCE 600
 #include "files.h"
 #include "questions.h"
 
@@ -18,18 +19,24 @@
 #include <stdlib.h>
 #include <string.h>
 
-enum { DEFAULT_QUESTIONS = 10000, DEFAULT_SEED = 20260, COMMAND_ROOM = 3 * PATH_ROOM };
+enum { DEFAULT_QUESTIONS = 10000, DEFAULT_SEED = 20260 };
 
 /* ---- writing ---- */
+
+static void give_up(const char *folder, const char *name)
+{
+    fprintf(stderr, "asked: %s/%s: %s\n", folder, name, strerror(errno));
+    exit(2);
+}
 
 static FILE *open_in(const char *folder, const char *name)
 {
     char path[PATH_ROOM];
-    FILE *file = join_path(path, folder, name) == 0 ? fopen(path, "wb") : NULL;
-    if (file == NULL) {
-        fprintf(stderr, "asked: %s/%s: %s\n", folder, name, strerror(errno));
+    if (join_path(path, folder, name) != 0)
         exit(2);
-    }
+    FILE *file = fopen(path, "wb");
+    if (file == NULL)
+        give_up(folder, name);
     return file;
 }
 
@@ -74,12 +81,12 @@ static void write_answers(FILE *file, const struct answers *answers)
     fprintf(file, "\n");
 }
 
-static void close_whole(FILE *file, const char *name)
+/* A write that failed has left its reason, unless the close has one of its own. */
+static void close_whole(FILE *file, const char *folder, const char *name)
 {
-    if (ferror(file) == 0 && fclose(file) == 0)
-        return;
-    fprintf(stderr, "asked: %s: not written whole\n", name);
-    exit(2);
+    bool failed = ferror(file) != 0;
+    if (fclose(file) != 0 || failed)
+        give_up(folder, name);
 }
 
 static void write_all(const char *folder, uint64_t questions, uint64_t seed, struct question_tally *tally)
@@ -87,7 +94,7 @@ static void write_all(const char *folder, uint64_t questions, uint64_t seed, str
     FILE *asked = open_in(folder, "questions.bin"), *expected = open_in(folder, "expected");
     struct input input = {.slots = malloc(SLOTS_ROOM)};
     if (input.slots == NULL)
-        exit(2);
+        give_up(folder, "questions.bin");
     write_number(asked, (uint32_t)questions);
     for (uint64_t i = 0; i < questions; i++) {
         struct question question = make_question(&input, seed, i);
@@ -97,17 +104,18 @@ static void write_all(const char *folder, uint64_t questions, uint64_t seed, str
         question_tally_add(tally, &question, &answers);
     }
     free(input.slots);
-    close_whole(asked, "questions.bin");
-    close_whole(expected, "expected");
+    close_whole(asked, folder, "questions.bin");
+    close_whole(expected, folder, "expected");
 }
 
 /* ---- comparing ---- */
 
+/* The shell gets the two names as they are, whatever characters they have. */
 static bool run(const char *program, const char *folder)
 {
-    char command[COMMAND_ROOM];
-    snprintf(command, sizeof command, "cd '%s' && '%s' >answers", folder, program);
-    int status = system(command);
+    setenv("ASKED_PROGRAM", program, 1);
+    setenv("ASKED_FOLDER", folder, 1);
+    int status = system("CDPATH= cd -- \"$ASKED_FOLDER\" && \"$ASKED_PROGRAM\" >answers");
     if (status != 0)
         printf("asked: %s ended with status %d\n", program, status);
     return status == 0;
@@ -175,5 +183,5 @@ int main(int argc, char **argv)
     if (never > 0)
         printf(", but %u classes were NEVER MET", never);
     printf("\n");
-    return never == 0 ? 0 : 1;
+    return exit_status("asked", never == 0);
 }

@@ -17,17 +17,18 @@ int join_path(char path[PATH_ROOM], const char *folder, const char *name)
 /* Reads until the end: the size of a pipe or a growing file isn't known before. */
 static int read_all(struct file *file, FILE *stream)
 {
-    size_t room = 0, n;
+    size_t room = 0;
     do {
-        room = room * 2 + 4096;
+        room = room < FILE_MAX / 2 ? room * 2 + 4096 : FILE_MAX + 1;
         uint8_t *more = realloc(file->bytes, room);
         if (more == NULL)
             return -1;
         file->bytes = more;
-        n = fread(file->bytes + file->len, 1, room - file->len, stream);
-        file->len += n;
-    } while (file->len == room);
-    return ferror(stream) ? -1 : 0;
+        file->len += fread(file->bytes + file->len, 1, room - file->len, stream);
+    } while (file->len == room && room <= FILE_MAX);
+    if (file->len > FILE_MAX)
+        errno = EFBIG;
+    return ferror(stream) || file->len > FILE_MAX ? -1 : 0;
 }
 
 int read_file(struct file *file, const char *folder, const char *name)
@@ -57,4 +58,14 @@ int read_records(struct file *file, const char *folder, const char *name, size_t
         return 0;
     fprintf(stderr, "%s: %zu bytes aren't whole records of %zu\n", file->path, file->len, bytes);
     return -1;
+}
+
+int exit_status(const char *program, bool good)
+{
+    bool failed = ferror(stdout) != 0;
+    errno = 0;
+    if (fclose(stdout) == 0 && !failed)
+        return good ? 0 : 1;
+    fprintf(stderr, "%s: standard output: %s\n", program, errno != 0 ? strerror(errno) : "not written whole");
+    return 1;
 }

@@ -35,6 +35,14 @@ static void give_up(const char *what)
     exit(NO_TERMINAL);
 }
 
+static pid_t start(void)
+{
+    pid_t pid = fork();
+    if (pid < 0)
+        give_up("halfway: fork");
+    return pid;
+}
+
 static void nap(void)
 {
     nanosleep(&(struct timespec){.tv_nsec = 1000000}, NULL);
@@ -121,7 +129,7 @@ static int in_new_session(const struct file *file, const char *link, char **comm
     feed(&t, file);
     while (waiting(&t) < file->len)
         nap();
-    pid_t pid = fork();
+    pid_t pid = start();
     if (pid == 0)
         run(&t, command);
     int status = follow(&t, file, pid);
@@ -136,9 +144,13 @@ int main(int argc, char **argv)
         fprintf(stderr, "usage: halfway FILE LINK COMMAND [ARGUMENT...]\n");
         return 2;
     }
-    if (read_file(&file, ".", argv[1]) != 0 || file.len == 0 || file.len > BYTES_MAX)
+    if (read_file(&file, ".", argv[1]) != 0)
         return 2;
-    pid_t pid = fork(); /* only a process that leads no group can begin a session */
+    if (file.len == 0 || file.len > BYTES_MAX) {
+        fprintf(stderr, "%s: %zu bytes aren't from 1 to %d\n", file.path, file.len, BYTES_MAX);
+        return 2;
+    }
+    pid_t pid = start(); /* only a process that leads no group can begin a session */
     if (pid == 0)
         exit(in_new_session(&file, argv[2], argv + 3));
     waitpid(pid, &status, 0);

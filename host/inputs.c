@@ -6,6 +6,7 @@
  */
 #include "inputs.h"
 
+#include <errno.h>
 #include <stdio.h>
 #include <stdlib.h>
 #include <string.h>
@@ -142,9 +143,10 @@ uint64_t supply_with(enum mistake mistake, const struct task *task, const uint8_
 uint64_t number_argument(const char *program, const char *text)
 {
     char *end;
+    errno = 0;
     uint64_t number = strtoull(text, &end, 10);
-    if (*text < '0' || *text > '9' || *end != '\0') {
-        fprintf(stderr, "%s: \"%s\" isn't a number\n", program, text);
+    if (*text < '0' || *text > '9' || *end != '\0' || errno != 0) {
+        fprintf(stderr, "%s: \"%s\" isn't a number of 64 bits\n", program, text);
         exit(2);
     }
     return number;

@@ -33,7 +33,7 @@ struct input {
     struct strips strips; /* a grant's e, d, h, m, k */
 };
 
-/* Wheels at which the judge may take larger arrays, one less and one more. */
+/* Wheels at which the judge takes larger arrays, and the half of the largest, each with one less and one more. */
 enum { WHEEL_EDGES = 14 };
 extern const uint32_t wheel_edges[WHEEL_EDGES];
 

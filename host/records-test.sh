@@ -160,6 +160,16 @@ bad_slot 'a loss below 0' '50,51,1,-1' 'field loss: not a number: "-1"'
 bad_slot 'half a tick of loss' '50,51,1,0.5' 'field loss: not a number: "0.5"'
 bad_slot 'an empty loss' '50,51,1,' 'field loss: not a number: ""'
 
+# What a complaint shows of a field: sixty bytes at most, and those that a screen doesn't show by their numbers.
+fresh; printf '1,2\000,1,0\n' >>"$folder/slots.csv"
+complains 'a byte 0' 'slots.csv:4: field end: not a number: "2\x00"'
+fresh; printf '1,2\033[2J,1,0\n' >>"$folder/slots.csv"
+complains 'a byte that clears the screen' 'slots.csv:4: field end: not a number: "2\x1b[2J"'
+fresh; echo "$slots_header" | sed 's/./&@/g' | tr @ '\000' >"$folder/slots.csv"
+complains 'UTF-16' 'slots.csv:1: field start: the header has another name here: "s\x00t\x00a\x00r\x00t\x00"'
+bad_slot 'sixty digits' "1,2,$(printf %060d 65536),0" "field owner: above 65535: \"$(printf %060d 65536)\""
+bad_slot 'sixty-one digits' "1,2,$(printf %061d 65536),0" "field owner: above 65535: \"$(printf %060d 6553) ..\""
+
 fresh; echo '1,55,27,70,70,3,10,0,2' >"$folder/tasks.csv"
 complains 'no header' 'tasks.csv:1: field id: the header has another name here: "1"'
 fresh; : >"$folder/tasks.csv"
@@ -190,6 +200,12 @@ fresh; echo "$slots_header,spare" >"$folder/slots.csv"
 complains 'a header with one column more' 'slots.csv:1: field loss: an extra field after it: "spare"'
 fresh; rm "$folder/slots.csv"
 complains 'a missing table' 'slots.csv: No such file'
+fresh; ln -sf slots.csv "$folder/slots.csv"
+complains 'a link in a circle' 'slots.csv: Too many levels of symbolic links'
+fresh; ln -sf /dev/zero "$folder/slots.csv"
+complains 'a table without an end' 'slots.csv: File too large'
+fresh; ln -s /dev/full "$folder/slots.bin.part"
+complains 'no room for the part' 'slots.bin.part: No space left on device'
 fresh; mkdir "$folder/slots.bin.part"
 complains 'no place for the part' 'slots.bin.part: ' 'slots.bin.part '
 fresh; mkdir -p "$folder/tasks.bin/x"
@@ -341,6 +357,15 @@ tried=$((tried + 1))
 tables "$task" '0,10,7\n20,56,7\n40'
 "$records" make "$folder" 2>"$folder/said" && fail 'a bad slot and a missing field: taken'
 [ "$(cat "$folder/said")" = "$folder/slots.csv:4: field end: missing" ] || fail "a missing field: said \"$(cat "$folder/said")\""
+
+# What can't be printed is no good end.
+tried=$((tried + 2))
+fresh
+"$records" make "$folder" || fail 'output: make'
+"$records" show "$folder" >/dev/full 2>"$folder/said" && fail 'a full output: taken'
+grep -qx 'records: standard output: No space left on device' "$folder/said" || fail 'a full output: said something else'
+"$records" show "$folder" >&- 2>"$folder/said" && fail 'a closed output: taken'
+grep -qx 'records: standard output: Bad file descriptor' "$folder/said" || fail 'a closed output: said something else'
 
 tried=$((tried + 1))
 "$records" >/dev/null 2>&1

@@ -29,7 +29,7 @@ struct column {
     size_t width; /* bytes */
 };
 
-enum { COLUMNS_MAX = 9 };
+enum { COLUMNS_MAX = 9, QUOTED_MAX = 60 /* bytes of a field in a complaint */ };
 
 struct table {
     const char *csv, *bin, *part; /* part: what is written before the rename */
@@ -100,11 +100,22 @@ static bool take(struct text *rest, char mark, struct text *taken)
     return true;
 }
 
+/* The beginning of a field; a byte that a screen doesn't show, such as each second one of UTF-16, by its number. */
+static void quote(struct text text)
+{
+    fprintf(stderr, ": \"");
+    for (size_t i = 0; i < text.len && i < QUOTED_MAX; i++) {
+        const unsigned char byte = (unsigned char)text.at[i];
+        fprintf(stderr, byte < ' ' || byte == 0x7f ? "\\x%02x" : "%c", byte);
+    }
+    fprintf(stderr, "%s\"", text.len > QUOTED_MAX ? " .." : "");
+}
+
 static int complain(const struct place *place, const char *column, const char *trouble, struct text text)
 {
     fprintf(stderr, "%s:%zu: field %s: %s", place->path, place->line, column, trouble);
     if (text.at != NULL)
-        fprintf(stderr, ": \"%.*s\"", (int)text.len, text.at);
+        quote(text);
     fprintf(stderr, "\n");
     return -1;
 }
@@ -404,7 +415,7 @@ int main(int argc, char **argv)
     if ((argc == 3 || argc == 4) && strcmp(argv[1], "make") == 0)
         return make(argv[2], argv[argc - 1]) == 0 ? 0 : 1;
     if (argc == 3 && strcmp(argv[1], "show") == 0)
-        return show(argv[2]) == 0 ? 0 : 1;
+        return exit_status("records", show(argv[2]) == 0);
     fprintf(stderr, "usage: records make FOLDER [INTO]\n       records show FOLDER\n");
     return 2;
 }

@@ -13,8 +13,10 @@
  * alike.
  * Two good boards with the same slots for a task's id must give it the same.
  * The first difference is printed with its seed, number and bytes, and ends
- * the run. So does, at the end, a class of inputs that was never met.
+ * the run. So does, at the end, a class of inputs that was never met. A long run
+ * says now and then how far it has come.
  */
+#include "files.h"
 #include "fiddlequill.h"
 #include "hand.h"
 
@@ -30,6 +32,7 @@ enum {
     SETS_MAX = 8,        /* free slots whose sets are all tried after a refusal 13 */
     SETS_WHEEL_MAX = 48, /* and the longest wheel for it */
     LONG_SITE = 5000,    /* records; their bytes, their slots' and their answers' all go beyond 16 bits */
+    STRETCH = 500000,    /* inputs between two words on how far a run has come */
 };
 
 /* The definition has its sizes from the rules. */
@@ -39,9 +42,26 @@ _Static_assert(TASK_BYTES == FIDDLEQUILL_TASK_BYTES && SLOT_BYTES == FIDDLEQUILL
 
 /* ---- lent buffers ---- */
 
+/* Whether memory may be read. Only memcheck sees that it was, so `make memcheck` alone compiles it in. */
+#ifdef MEMCHECK
+#include <valgrind/memcheck.h>
+static void set_open(const uint8_t *at, size_t len, bool open)
+{
+    if (open)
+        (void)VALGRIND_MAKE_MEM_DEFINED(at, len);
+    else
+        (void)VALGRIND_MAKE_MEM_NOACCESS(at, len);
+}
+#else
+static void set_open(const uint8_t *at, size_t len, bool open)
+{
+    (void)at, (void)len, (void)open;
+}
+#endif
+
 struct lent {
     uint8_t *room; /* guard, some bytes to spoil the alignment, content, guard */
-    size_t lead, len;
+    size_t size, lead, len;
     uint8_t guard;
     bool null;
 };
@@ -52,7 +72,8 @@ struct lent_buffers {
 
 static struct lent lent_room(size_t most)
 {
-    struct lent lent = {.room = malloc(most + 2 * GUARD + 8)};
+    struct lent lent = {.size = most + 2 * GUARD + 8};
+    lent.room = malloc(lent.size);
     if (lent.room == NULL) {
         fprintf(stderr, "second: no memory for %zu bytes\n", most);
         exit(2);
@@ -65,8 +86,17 @@ static uint8_t *content_of(const struct lent *lent)
     return lent->null ? NULL : lent->room + lent->lead;
 }
 
+/* What lies around the content is open to this program alone. */
+static void set_guards_open(const struct lent *lent, bool open)
+{
+    const size_t behind = lent->lead + lent->len;
+    set_open(lent->room, lent->lead, open);
+    set_open(lent->room + behind, lent->size - behind, open);
+}
+
 static uint8_t *lend(struct lent *lent, const uint8_t *content, size_t len, bool null_when_empty, struct rng *rng)
 {
+    set_guards_open(lent, true);
     lent->len = len;
     lent->lead = GUARD + below(rng, 8);
     lent->guard = (uint8_t)below(rng, 256);
@@ -74,6 +104,7 @@ static uint8_t *lend(struct lent *lent, const uint8_t *content, size_t len, bool
     memset(lent->room, lent->guard, lent->lead);
     memcpy(lent->room + lent->lead, content, len);
     memset(lent->room + lent->lead + len, lent->guard, GUARD);
+    set_guards_open(lent, false);
     return content_of(lent);
 }
 
@@ -87,9 +118,12 @@ static bool all_are(const uint8_t *bytes, size_t n, uint8_t value)
 
 static bool holds(const struct lent *lent, const uint8_t *content)
 {
-    return all_are(lent->room, lent->lead, lent->guard) &&
-           memcmp(lent->room + lent->lead, content, lent->len) == 0 &&
-           all_are(lent->room + lent->lead + lent->len, GUARD, lent->guard);
+    set_guards_open(lent, true);
+    bool same = all_are(lent->room, lent->lead, lent->guard) &&
+                memcmp(lent->room + lent->lead, content, lent->len) == 0 &&
+                all_are(lent->room + lent->lead + lent->len, GUARD, lent->guard);
+    set_guards_open(lent, false);
+    return same;
 }
 
 /* ---- both sides ---- */
@@ -587,6 +621,14 @@ static bool long_site_agrees(void)
     return same;
 }
 
+static void tell_stretch(uint64_t done, uint64_t inputs)
+{
+    if (done % STRETCH != 0 || done == inputs)
+        return;
+    printf("second: %" PRIu64 " of %" PRIu64 " inputs so far, 0 differences\n", done, inputs);
+    fflush(stdout);
+}
+
 static bool seeded_inputs_agree(struct input in[2], struct lent_buffers *buffers, struct tally *tally, uint64_t inputs,
                                 uint64_t seed)
 {
@@ -602,6 +644,7 @@ static bool seeded_inputs_agree(struct input in[2], struct lent_buffers *buffers
                    pair ? "pair" : kind_names[in->kind]);
             return false;
         }
+        tell_stretch(number + 1, inputs);
     }
     return true;
 }
@@ -622,6 +665,10 @@ static bool run(struct input in[2], struct lent_buffers *buffers, uint64_t input
 
 int main(int argc, char **argv)
 {
+    if (argc > 3) {
+        fprintf(stderr, "usage: second [INPUTS [SEED]]\n");
+        return 2;
+    }
     uint64_t inputs = argc > 1 ? number_argument("second", argv[1]) : DEFAULT_INPUTS;
     uint64_t seed = argc > 2 ? number_argument("second", argv[2]) : DEFAULT_SEED;
     struct lent_buffers buffers = {lent_room(SITE_TASKS_ROOM), lent_room(SLOTS_ROOM), lent_room(SITE_REPLY_ROOM),
@@ -629,6 +676,7 @@ int main(int argc, char **argv)
     struct lent slots[2] = {lent_room(SLOTS_ROOM), lent_room(SLOTS_ROOM)};
     struct input in[2] = {{.slots = slots[0].room}, {.slots = slots[1].room}};
     printf("second: seed %" PRIu64 "\n", seed);
+    fflush(stdout); /* a run that is ended from outside has told its seed */
     bool good = run(in, &buffers, inputs, seed);
     free(buffers.task.room);
     free(buffers.slots.room);
@@ -636,5 +684,5 @@ int main(int argc, char **argv)
     free(buffers.marks.room);
     free(slots[0].room);
     free(slots[1].room);
-    return good ? 0 : 1;
+    return exit_status("second", good);
 }

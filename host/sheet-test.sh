@@ -109,8 +109,28 @@ says 'no files' "make sheet: $folder/site/tasks.bin: no such file
 make sheet: $folder/site/slots.bin: no such file" "$only"
 fresh; rm "$folder/site/slots.bin"; mkdir "$folder/site/slots.bin"
 says 'a folder for slots.bin' "make sheet: $folder/site/slots.bin: not a file" "$only"
+fresh; ln -sf slots.bin "$folder/site/slots.bin"
+says 'a link in a circle for slots.bin' "make sheet: $folder/site/slots.bin: a link that leads to no file" "$only"
 fresh; rm "$folder/site"/*; cp "$site"/*.csv "$folder/site"
 says 'tables' '' "$whole"
+# The lengths that leave the one line alone, or as the last: a file of 65,536 bytes is read.
+zeros() { head -c "$2" /dev/zero >"$folder/site/$1.bin"; }
+fresh; zeros tasks 65537
+says 'a long tasks.bin' "make sheet: $folder/site/tasks.bin: 65537 bytes, more than 65536" "$only"
+fresh; zeros slots 65544
+says 'a long slots.bin' "make sheet: $folder/site/slots.bin: 65544 bytes, more than 65536" "$only"
+fresh; zeros slots 65532
+says 'the longest slots.bin' '' "$(printf '1 15 0 0 0\n2 15 0 0 0\n3 15 0 0 0')"
+fresh; zeros slots 13
+says 'a part of a slot' "make sheet: $folder/site/slots.bin: 13 bytes aren't whole records of 12" "$only"
+fresh; printf x >>"$folder/site/tasks.bin"
+says 'a part of a task' "make sheet: $folder/site/tasks.bin: 97 bytes aren't whole records of 32" "$whole
+$only"
+fresh; zeros tasks 0
+says 'no tasks' '' ''
+fresh; rm "$folder/site"/*; cp "$site"/*.csv "$folder/site"
+awk 'BEGIN { for (i = 0; i < 2046; i++) print "1,55,27,70,70,3,10,0,2" }' >>"$folder/site/tasks.csv"
+says 'tables of too many tasks' "make sheet: $folder/room/tasks.bin: 65568 bytes, more than 65536" "$only"
 # Tables with a bad slot or too large an id make a sheet like any others, and the line is said beside it.
 fresh; rm "$folder/site"/*
 printf 'id,w,e,D,h,m,k,first,count\n1,55,27,70,70,3,10,0,2\n65537,55,27,70,70,3,10,0,2\n' >"$folder/site/tasks.csv"
@@ -140,6 +160,30 @@ fresh; rm "$folder/site"/*; cp "$site/tasks.csv" "$folder/site"
 says 'no slots.csv' "make sheet: $folder/site/slots.csv: no such file" "$only"
 fresh; rm "$folder/site"/*; cp "$site/slots.csv" "$folder/site"
 says 'no tasks.csv' "make sheet: $folder/site/tasks.csv: no such file" "$only"
+
+# What can't be printed is no good end. The program itself has no exit status.
+tried=$((tried + 2))
+fresh
+"$here/sheet.sh" "$sheet" "$records" "$folder/site" "$folder/room" >/dev/full 2>"$folder/said" && fail 'a full output: taken'
+grep -q '^make sheet: standard output: ' "$folder/said" || fail "a full output: said \"$(cat "$folder/said")\""
+"$here/sheet.sh" "$sheet" "$records" "$folder/site" "$folder/room" >&- 2>"$folder/said" && fail 'a closed output: taken'
+grep -q '^make sheet: standard output: ' "$folder/said" || fail "a closed output: said \"$(cat "$folder/said")\""
+
+# A folder's name may begin like an option, and be another's name as well on the path on which a shell looks for folders.
+tried=$((tried + 1))
+fresh; mkdir "$folder/other" "$folder/other/-site"
+mv "$folder/site" "$folder/-site"
+script=$(realpath "$here/sheet.sh") maker=$(realpath "$records")
+out=$(cd "$folder" && CDPATH="$folder/other" "$script" "$sheet" "$maker" -site room) || fail "-site: exit status $?"
+[ "$out" = "$whole" ] || fail "-site: printed \"$out\""
+mv "$folder/-site" "$folder/site"
+
+# The room is a site of tables itself: they stay.
+tried=$((tried + 1))
+fresh; rm "$folder/site"/*; cp "$site"/*.csv "$folder/site"
+out=$("$here/sheet.sh" "$sheet" "$records" "$folder/site" "$folder/site") || fail "a site for the room: exit status $?"
+[ "$out" = "$whole" ] || fail "a site for the room: printed \"$out\""
+cmp -s "$site/tasks.csv" "$folder/site/tasks.csv" || fail 'a site for the room: the tables are gone'
 
 # No sheet stands for a table that can't be read or a site that isn't there.
 tried=$((tried + 4))

@@ -8,6 +8,7 @@
 #define _DEFAULT_SOURCE
 
 #include "bytes.h"
+#include "files.h"
 #include "fiddlequill.h"
 
 #include <pthread.h>
@@ -201,5 +202,5 @@ int main(void)
             deepest = depth > deepest ? depth : deepest;
         }
     printf("stack: %zu bytes at most, %u allowed\n", deepest, FIDDLEQUILL_STACK_BYTES);
-    return deepest <= FIDDLEQUILL_STACK_BYTES ? 0 : 1;
+    return exit_status("stack", deepest <= FIDDLEQUILL_STACK_BYTES);
 }

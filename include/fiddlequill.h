@@ -28,7 +28,7 @@
  * All eight calls fail in one way: they refuse with a number from 1 to 19 and
  * 0 stands for success. Every input gets an answer or a refusal; no content of
  * a buffer is undefined behaviour. What the caller must provide is memory: each
- * pointer has as many readable (reply, marks: writable) bytes as its length
+ * pointer has as many readable (reply, marks: also writable) bytes as its length
  * says. NULL is fine where the length is 0. No alignment is needed.
  *
  * Threads: there is no global state and no allocation, and the calls are
@@ -129,9 +129,9 @@ enum fiddlequill_refusal {
  *   A slot fits when start < end, end <= w, start is not below the end of the
  *   slot record before it on the same board, and loss <= end - start. So a
  *   board's slots stand in the order of time, whoever owns them. Slots may
- *   touch, and a task without slots is a good one. Every record of the board
- *   must fit: a task is refused for another owner's bad slot, too. Records
- *   outside first .. first + count - 1 aren't looked at.
+ *   touch, and a task without a slot is accepted. Every record of the board must
+ *   fit: a task is refused for another owner's bad slot, too. Records outside
+ *   first .. first + count - 1 aren't looked at.
  *   A task gets the ticks of its own slots and of no other, from start + loss to
  *   end. But where no switch is, nothing is lost: a slot that starts where a slot
  *   of the same owner ends, also round the end of the wheel (end w, start 0),
@@ -270,9 +270,14 @@ uint64_t fiddlequill_quick(const uint8_t *task, size_t task_len,
  * beside 15 to 18 is place 0 the board's first slot.
  * Never written: anything.
  *
- * Judging, fiddlequill_quick or counting on the same task and slots gives the
- * same number whenever it gives 1, 3, 4 or 14 to 19, and gives none of these when
- * this call gives 0 (judging gives 2 first when the reply is too short).
+ * Success is certain when task_len is 32, slots_len a multiple of 12, first +
+ * count within the slot records, id, w and count are in the ranges given at the
+ * task record, and every slot of the board fits.
+ *
+ * Judging, fiddlequill_quick, counting, supply or margin on the same task and
+ * slots gives the same number whenever it gives 1, 3, 4 or 14 to 19, and gives
+ * none of these when this call gives 0 (judging gives 2 before all of them but 1
+ * when the reply is too short).
  *
  * To tell a supplier:
  *
@@ -293,6 +298,10 @@ uint64_t fiddlequill_which_slot(const uint8_t *task, size_t task_len,
  * Counts the dropped strips when the first one arrives at `offset`, in half
  * ticks. Gives the refusal number and the count, 0 to k, packed in one number:
  * take it apart with fiddlequill_number and fiddlequill_value.
+ *
+ *   task, task_len     one task record
+ *   slots, slots_len   the slot records that first and count point into
+ *   offset             in half ticks, 0 to 2w - 1
  *
  * Refusals in checking order: 1, 3, 19, 4, 14, then slot by slot 15, 16, 17, 18,
  * then 6, 7, 8, 9, 10, 11; each comes with count 0. (m plays no part in the
@@ -315,8 +324,8 @@ uint64_t fiddlequill_count(const uint8_t *task, size_t task_len,
  * that go to the switch aren't usable.
  * Packed with the refusal number like fiddlequill_count's result.
  *
- * Refusals, and when success is certain, as for fiddlequill_count; each refusal
- * comes with supply 0. Never written: anything.
+ * Arguments, refusals, and when success is certain, as for fiddlequill_count; each
+ * refusal comes with supply 0. Never written: anything.
  */
 FIDDLEQUILL_CHECK
 uint64_t fiddlequill_supply(const uint8_t *task, size_t task_len,
@@ -329,8 +338,9 @@ uint64_t fiddlequill_supply(const uint8_t *task, size_t task_len,
  * strip is dropped. Packed with the refusal number like fiddlequill_count's
  * result, in two's complement: fiddlequill_signed gives it back.
  *
- * Refusals, and when success is certain, as for fiddlequill_count; each refusal
- * comes with margin 0, so look at the number first. Never written: anything.
+ * Arguments, refusals, and when success is certain, as for fiddlequill_count; each
+ * refusal comes with margin 0, so look at the number first. Never written:
+ * anything.
  *
  *   uint64_t result = fiddlequill_margin(task, FIDDLEQUILL_TASK_BYTES,
  *                                        slots, slots_len, 9);
@@ -372,8 +382,9 @@ uint64_t fiddlequill_margin(const uint8_t *task, size_t task_len,
  * On success the marks of the j granted slots become 2.
  * Never written: any other mark.
  *
- * j is 0 exactly when m is 0, and then no mark moves. Success is certain when
- * 12 and 6 to 10 don't apply and the task is firm with all free slots.
+ * On success j is 0 exactly when m is 0, and then no mark moves. Success is
+ * certain when 12 and 6 to 10 don't apply and the task is firm with all free
+ * slots.
  */
 FIDDLEQUILL_CHECK
 uint64_t fiddlequill_grant(uint8_t *marks, size_t marks_len, uint64_t v,
@@ -389,8 +400,8 @@ static inline uint32_t fiddlequill_number(uint64_t packed)
 }
 
 /* The count, the supply, the granted slots, the bad slot's place or firm (1 or 0)
- * in a packed result, or the margin in two's complement; 0 beside a refusal that
- * is about no single slot. */
+ * in a packed result, or the margin in two's complement; 0 beside a refusal, but
+ * for the place that fiddlequill_which_slot gives. */
 static inline uint32_t fiddlequill_value(uint64_t packed)
 {
     return (uint32_t)(packed & 0xffffffffu);

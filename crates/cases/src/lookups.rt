@@ -11,26 +11,25 @@ fn factory() -> [u8; 2 * TaskRecord::BYTES] {
     *b"\x01\0\0\0the factory's record of id 1\x02\0\0\0the factory's record of id 2"
 }
 
-fn lookup(id: u32) {
-    let site = site();
-    let factory = factory();
-    let found = records::lookup::lookup(&site, &factory, id);
+fn found(id: u64, part: &[u8]) {
     print::text(b"lookup ");
-    print::number(id as u64);
+    print::number(id);
     print::text(b": ");
-    print::number(found.len() as u64);
+    print::number(part.len() as u64);
     print::text(b" bytes");
-    if found.len() == TaskRecord::BYTES {
+    if part.len() == TaskRecord::BYTES {
         print::text(b", ");
-        print::text(&found[4..]);
+        print::text(&part[4..]);
     }
     print::text(b"\n");
 }
 
-// Both files have 1, only the factory file has 2, a part record alone has 3, and nothing has 4.
-pub fn all() {
-    lookup(1);
-    lookup(2);
-    lookup(3);
-    lookup(4);
+// Both files have 1, only the factory file has 2, and a part record alone has 3.
+pub fn lookup(id: u64) {
+    let site = site();
+    let factory = factory();
+    found(
+        id,
+        lookup::lookup(&site, &factory, (id % 4294967296) as u32),
+    );
 }

@@ -12,21 +12,22 @@ use lib.Seq.{take-at}
 use Rattle.maps.specs.Maps.{fallen, Top, Sized}
 use Rattle.maps.proofs.Strips.{strips-turns}
 use Rattle.engine.specs.Counts.{Counted, Wheeled}
-use Rattle.engine.specs.First.{Largest, Led, First}
-use Rattle.rules.proofs.Sums.{le-or-lt}
+use Rattle.engine.specs.First.{Most, Led, First}
+use Rattle.rules.specs.Sums.{Largest}
+use Rattle.rules.proofs.Sums.{le-or-lt, largest-same}
 use Rattle.engine.proofs.Turns.{last-or-before}
 use Rattle.engine.proofs.Counts.{counted-one}
 
 -- ---- a block
 
-pub largest-start : {x : List ℕ} {from to : ℕ} → from < to → Largest x from from to (getD x from 0)
-largest-start {from = from} l =
+pub most-start : {x : List ℕ} {from to : ℕ} → from < to → Most x from from to (getD x from 0)
+most-start {from = from} l =
     record { bound = λ i a b. absurd (omega arith); place = from; start = le-refl from; inside = l; hit = refl }
 
 -- m′ is m after place i: still m where the entry there is no more, else that entry.
-pub largest-kept :
-    {x : List ℕ} {from i to m m′ : ℕ} → Largest x from i to m → getD x i 0 ≤ m → m′ ≡ m → Largest x from (i + 1) to m′
-largest-kept {x} {m = m} {m′} g l e =
+pub most-kept :
+    {x : List ℕ} {from i to m m′ : ℕ} → Most x from i to m → getD x i 0 ≤ m → m′ ≡ m → Most x from (i + 1) to m′
+most-kept {x} {m = m} {m′} g l e =
     record {
       bound = λ j a b.
           ⊎-elim
@@ -39,10 +40,10 @@ largest-kept {x} {m = m} {m′} g l e =
       hit = g .hit ∙ sym e;
     }
 
-pub largest-raised :
-    {x : List ℕ} {from i to m m′ : ℕ} → Largest x from i to m → from ≤ i → i < to → m < getD x i 0 → m′ ≡ getD x i 0
-    → Largest x from (i + 1) to m′
-largest-raised {x} {i = i} {m = m} {m′} g low high l e =
+pub most-raised :
+    {x : List ℕ} {from i to m m′ : ℕ} → Most x from i to m → from ≤ i → i < to → m < getD x i 0 → m′ ≡ getD x i 0
+    → Most x from (i + 1) to m′
+most-raised {x} {i = i} {m = m} {m′} g low high l e =
     record {
       bound = λ j a b.
           ⊎-elim
@@ -55,8 +56,8 @@ largest-raised {x} {i = i} {m = m} {m′} g low high l e =
       hit = sym e;
     }
 
-pub largest-done : {x : List ℕ} {from i to m : ℕ} → Largest x from i to m → to ≤ i → Largest x from to to m
-largest-done g l =
+pub most-done : {x : List ℕ} {from i to m : ℕ} → Most x from i to m → to ≤ i → Most x from to to m
+most-done g l =
     record {
       bound = λ j a b. g .bound j a (omega arith);
       place = g .place;
@@ -78,7 +79,7 @@ led-start l =
       least = λ i s. absurd (omega arith);
     }
 
-pub led-kept : {x : List ℕ} {n to m b at : ℕ} → Led x n m at → Largest x n to to b → b ≤ m → Led x to m at
+pub led-kept : {x : List ℕ} {n to m b at : ℕ} → Led x n m at → Most x n to to b → b ≤ m → Led x to m at
 led-kept {n = n} {to} g block l =
     record {
       bound = λ i s.
@@ -94,7 +95,7 @@ led-kept {n = n} {to} g block l =
     }
 
 pub led-raised :
-    {x : List ℕ} {n to m b at : ℕ} → Led x n m at → Largest x n to to b → m < b → to ≤ length x → Led x to b n
+    {x : List ℕ} {n to m b at : ℕ} → Led x n m at → Most x n to to b → m < b → to ≤ length x → Led x to b n
 led-raised {n = n} {to} g block l inside =
     record {
       bound = λ i s.
@@ -144,22 +145,15 @@ first-of g e =
 
 -- The first largest of the counts that are kept is the crest of the map. They are all of a list, or a part of one.
 pub crest-of :
-    {z x p : List ℕ} {h k s m t : ℕ} → Counted z (h % length z) k x s → p ≡ x → First p m t → Top z h k m t
+    {z x p : List ℕ} {k s m t : ℕ} (h : ℕ) → Counted z (h % length z) k x s → p ≡ x → First p m t → Top z h k m t
 unfolding fallen
-crest-of {z} {x} {h = h} {k} {t = t} c part first =
-    let f : First x _ t = rw part at first in
-    let same : (i : ℕ) → i < length z → getD x i 0 ≡ fallen z h k i =
-    λ i s. c .at i s ∙ strips-turns (λ a. getD z a 0) (length z) h k i in
-    record {
-      bound = λ i s. rw (same i s) at (f .bound i (omega (arith, c .as-long)));
-      inside = omega (arith, c .as-long, f .inside);
-      hit = sym (same t (omega (arith, c .as-long, f .inside))) ∙ f .hit;
-      least = λ i s. rw (same i (omega (arith, c .as-long, f .inside))) at (f .least i s);
-    }
+crest-of {z} {x} {k = k} {t = t} h c part first =
+    let f : Largest (λ i. getD x i 0) (length z) _ t = rw (part, c .as-long) at first in
+    largest-same (λ i s. c .at i s ∙ strips-turns (λ a. getD z a 0) (length z) h k i) f
 
 -- The map itself counts one strip.
-pub crest-one : {z : List ℕ} {h k m t : ℕ} → k ≡ 1 → 0 < length z → First z m t → Top z h k m t
-crest-one {z} {h} e some f = rw e (crest-of (counted-one (mod-lt h some)) refl f)
+pub crest-one : (z : List ℕ) (h : ℕ) {k m t : ℕ} → k ≡ 1 → 0 < length z → First z m t → Top z h k m t
+crest-one z h e some f = rw e (crest-of h (counted-one (mod-lt h some)) refl f)
 
 -- The counts, put over the start of a buffer d, are as long as the wheel.
 pub part-length :

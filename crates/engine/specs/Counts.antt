@@ -3,13 +3,13 @@
 --     Wheeled z h          z is a wheel of bits within the bounds, and h a step within it
 --     Counted z h n x s    x has at each tick the count of n strips from there, and s is how far round n strips take
 --     AsLong z x y         x and y are as long as z
---     lack z x y           what x and y lack of z's length; 0 where both are long enough
+--     NoShorter z x y      x and y are as long as z or longer
 use mathlib.Core.Path.{_≡_}
 use mathlib.Core.List.{List}
-use Prim.Native.Nat.{ℕ, _+_, _*_, _%_, _≤_, _<_}
+use Prim.Native.Nat.{ℕ, _*_, _%_, _≤_, _<_}
 use lib.ListN.{length, getD}
 use Rattle.limits.specs.Limits.{mostTicks}
-use Rattle.maps.specs.Maps.{fallen, short}
+use Rattle.maps.specs.Maps.{fallen}
 
 pub record Wheeled (z : List ℕ) (h : ℕ) : Type 0 where
   pub step : h < length z
@@ -25,5 +25,6 @@ pub record AsLong (z x y : List ℕ) : Type 0 where
   pub one : length x ≡ length z
   pub other : length y ≡ length z
 
-abbrev pub lack : List ℕ → List ℕ → List ℕ → ℕ
-lack z x y = short (length z) (length x) + short (length z) (length y)
+pub record NoShorter (z x y : List ℕ) : Type 0 where
+  pub one : length z ≤ length x
+  pub other : length z ≤ length y

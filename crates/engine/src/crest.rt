@@ -4,7 +4,7 @@ use maps::Crest;
 ghost use mathlib.Core.Path.{_≡_};
 ghost use Prim.Native.Nat.{_≤_, _<_};
 ghost use lib.ListN.{length};
-ghost use Rattle.engine.specs.First.{Largest, Led, First};
+ghost use Rattle.engine.specs.First.{Most, Led, First};
 
 const BLOCK: usize = 256;
 
@@ -29,7 +29,7 @@ fn block_end(from: usize, n: usize) -> usize
 
 fn largest(x: &[u8], from: usize, to: usize) -> u8
     requires { ⌜ (from < to) × (to ≤ length (now x)) ⌝ }
-    ensures { λ r. ⌜ Largest (now (x .entry)) from to to r ⌝ }
+    ensures { λ r. ⌜ Most (now (x .entry)) from to to r ⌝ }
 {
     let mut m = x[from];
     let mut i = from;
@@ -45,7 +45,7 @@ fn largest(x: &[u8], from: usize, to: usize) -> u8
 
 fn largest_word(x: &[u16], from: usize, to: usize) -> u16
     requires { ⌜ (from < to) × (to ≤ length (now x)) ⌝ }
-    ensures { λ r. ⌜ Largest (now (x .entry)) from to to r ⌝ }
+    ensures { λ r. ⌜ Most (now (x .entry)) from to to r ⌝ }
 {
     let mut m = x[from];
     let mut i = from;

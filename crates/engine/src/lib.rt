@@ -5,18 +5,17 @@ mod pass;
 mod turn;
 
 use maps::Crest;
-ghost use mathlib.Core.Path.{_≡_};
-ghost use Prim.Native.Nat.{_+_, _≤_, _<_};
+ghost use Prim.Native.Nat.{_≤_, _<_};
 ghost use Rattle.maps.specs.Maps.{Top, Sized};
 ghost use Rattle.engine.specs.Turn.{byteEnd};
-ghost use Rattle.engine.specs.Counts.{lack};
+ghost use Rattle.engine.specs.Counts.{NoShorter};
 
 // Counts below it fit a byte.
 pub const BYTE_END: usize = 256;
 
 // The buffers are lent in any state.
 pub fn by_bytes(map: &[u8], here: &mut [u8], there: &mut [u8], h: usize, k: usize) -> Crest
-    requires { ⌜ Sized (now map) h k × (0 < k) × (k < byteEnd) × (lack (now map) (now here) (now there) ≡ 0) ⌝ }
+    requires { ⌜ Sized (now map) h k × (0 < k) × (k < byteEnd) × NoShorter (now map) (now here) (now there) ⌝ }
     ensures { λ r. ⌜ Top (now (map .entry)) h k (r .drops) (r .at) ⌝ }
 {
     if k == 1 {
@@ -36,7 +35,7 @@ pub fn by_words(
     h: usize,
     k: usize,
 ) -> Crest
-    requires { ⌜ Sized (now map) h k × (byteEnd ≤ k) × (lack (now map) (now low) (now spare) + lack (now map) (now here) (now there) ≡ 0) ⌝ }
+    requires { ⌜ Sized (now map) h k × (byteEnd ≤ k) × NoShorter (now map) (now low) (now spare) × NoShorter (now map) (now here) (now there) ⌝ }
     ensures { λ r. ⌜ Top (now (map .entry)) h k (r .drops) (r .at) ⌝ }
 {
     let w = map.len();

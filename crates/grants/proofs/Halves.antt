@@ -7,13 +7,14 @@ use native.Mathlib.Nat.{le-trans, mul-one, mul-zero}
 use native.Mathlib.Omega.{arith}
 use lib.ListN.{length}
 use borrow.Author.Tests.{lt-ltb, le-ltb}
-use Rattle.rules.specs.Sums.{Subset, bit, number}
+use Rattle.rules.specs.Sums.{bit, number}
 use Rattle.rules.specs.Supply.{Task, supply, dropped, drops, count}
 use Rattle.rules.specs.Usable.{usable, grid, covers, opens}
 use Rattle.rules.specs.Worst.{Firm}
 use Rattle.rules.specs.Grant.{first, gridTicks, Granted, NoChoice}
 use Rattle.rules.proofs.Step.{dropped-ltb}
 use Rattle.rules.proofs.Sums.{any-none, number-const, number-le}
+use Rattle.rules.proofs.Worst.{firm-all}
 use Rattle.rules.proofs.More.{firm-mono}
 use Rattle.rules.proofs.Grants.{grid-mono, first-mono, no-choice}
 use Rattle.ticks.specs.Ticks.{freeOf}
@@ -56,14 +57,9 @@ module _ (l : List ℕ) (g : Grid) (t : Task) where
 
   -- ---- m 0, and no slots
 
-  -- With m 0 every table is firm.
-  all-firm : (u : Subset) → t .m ≡ 0 → Firm u t
-  unfolding Firm count drops
-  all-firm u zero-m q p pos = omega (arith, number-le (λ i. dropped q u t (p + i * (q * t .h))) (t .k))
-
   pub grant-none : t .m ≡ 0 → Granted (length l) (g .v) (g .loss) (freeOf l) t 0
   grant-none zero-m =
-      record { enough = omega arith; firm = all-firm _ zero-m; smallest = λ i firm. omega arith }
+      record { enough = omega arith; firm = firm-all _ t zero-m; smallest = λ i firm. omega arith }
 
   -- No slots, no ticks: every strip is dropped.
   empty-ticks : (x : ℕ) → firstTicks l g 0 x ≡ false

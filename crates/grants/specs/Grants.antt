@@ -7,6 +7,7 @@
 --     askedFor e D h m k                the rules' task
 --     Marked l j after                  the first j free slots have mark 2, the others stay
 --     firstTicks l g j                  the usable ticks of the first j free slots
+--     Tries l g t all runs              what a trial is handed: marks, grid and task, the number of free slots, and a buffer for the runs
 --     FirmSays l g t j r                r says whether the first j free slots are firm
 --     Halving l g t a b                 the first b free slots are firm, and no number below a is
 --     Searched l g t r                  r is the grant, or says that no choice of the free slots is firm
@@ -23,9 +24,11 @@ use Rattle.rules.specs.Supply.{Task}
 use Rattle.rules.specs.Worst.{Firm}
 use Rattle.rules.specs.Grant.{first, gridTicks, Granted, NoChoice}
 use Rattle.limits.specs.Refusal.{_when_, _otherwise_, ifNone}
-use Rattle.limits.specs.Limits.{gridRefusal, taskRefusal, taskOf, gridOf, mostTicks, mostGranted}
+use Rattle.limits.specs.Limits.{gridRefusal, taskRefusal, taskOf, gridOf, mostTicks, mostGranted, Within}
+use Rattle.limits.specs.declared.Task as limits
 use Rattle.limits.specs.declared.Grid.{Grid}
 use Rattle.ticks.specs.Ticks.{freeOf}
+use Rattle.room.specs.Room.{fewEdges}
 use Rattle.grants.specs.declared.Checked.{Checked}
 use Rattle.grants.specs.declared.Checked.the-variants.{Good, Refused}
 use Rattle.grants.specs.declared.search.Smallest.{Smallest}
@@ -58,6 +61,12 @@ pub record Marked (l : List ℕ) (j : ℕ) (after : List ℕ) : Type 0 where
 
 abbrev pub firstTicks : List ℕ → Grid → ℕ → Subset
 firstTicks l g j = gridTicks (length l) (g .v) (g .loss) (first (freeOf l) j)
+
+pub record Tries (l : List ℕ) (g : Grid) (t : limits.Task) (all : ℕ) (runs : List ℕ) : Type 0 where
+  pub gridded : Gridded l g
+  pub within : Within t
+  pub free : all ≡ number (freeOf l) (length l)
+  pub room : length runs ≡ fewEdges
 
 pub record FirmSays (l : List ℕ) (g : Grid) (t : Task) (j : ℕ) (r : Bool) : Type 0 where
   pub yes-firm : r ≡ true → Firm (firstTicks l g j) t

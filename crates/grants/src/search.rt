@@ -1,11 +1,9 @@
 // The smallest number of first free slots that is firm, by halves: more slots never hurt.
 ghost use mathlib.Core.Path.{_≡_};
 ghost use lib.ListN.{length};
-ghost use Rattle.rules.specs.Sums.{number};
 ghost use Rattle.limits.specs.Limits.{asked, Within};
-ghost use Rattle.ticks.specs.Ticks.{freeOf};
 ghost use Rattle.room.specs.Room.{fewEdges};
-ghost use Rattle.grants.specs.Grants.{Gridded, Halving, Searched};
+ghost use Rattle.grants.specs.Grants.{Gridded, Tries, Halving, Searched};
 use limits::Grid;
 use limits::Task;
 
@@ -16,8 +14,7 @@ pub enum Smallest {
 
 // Between 1, below which nothing is firm, and all the free ones, which are.
 fn halve(marks: &[u8], grid: Grid, task: Task, all: usize, runs: &mut [u16]) -> usize
-    requires { ⌜ Gridded (now marks) grid × Within task × (length (now runs) ≡ fewEdges) × (all ≡ number (freeOf (now marks)) (length (now marks))) ⌝ }
-    requires { ⌜ Halving (now marks) grid (asked task) 1 all ⌝ }
+    requires { ⌜ Tries (now marks) grid task all (now runs) × Halving (now marks) grid (asked task) 1 all ⌝ }
     ensures { λ r. ⌜ Halving (now (marks .entry)) grid (asked task) r r ⌝ }
 {
     let mut below = 1;

@@ -6,9 +6,7 @@ use native.Mathlib.Omega.{arith}
 use native.Mathlib.Nat.{zero-lt-suc}
 use borrow.Author.Tests.{le-leb, lt-leb, leb-false}
 use lib.IntN.{ℤ, pos}
-use Rattle.rules.specs.Supply.{supply, margin, count}
 use Rattle.limits.specs.Refusal.{ifNone}
-use Rattle.limits.specs.Limits.{asked}
 use Rattle.limits.proofs.Refusals.{at-first, at-next, none-left, none-right, when-true, when-false, when-none, both-none}
 use Rattle.records.specs.Records.{taskRecord, boardOf, ticksOf}
 use Rattle.records.specs.Refusals.{sizes, bodyRefusal, beyond, pointRefusal, jobOf, checked}
@@ -16,7 +14,8 @@ use Rattle.records.specs.declared.TaskRecord.{TaskRecord}
 use Rattle.records.specs.declared.Job.{Job}
 use Rattle.records.specs.declared.Checked.the-variants.{Accepted, Refused}
 use Rattle.records.proofs.Checks.{checked-accepted, checked-refused}
-use Rattle.records.specs.Jobs.{Good, jobTicks}
+use Rattle.records.specs.Jobs.{Good}
+use Rattle.jobs.specs.Lent.{jobSupply, jobMargin, jobCount}
 use Rattle.judge.specs.Points.{gated, suppliedAt, marginAt, countedAt}
 use Rattle.judge.specs.declared.point.Gate.{Gate}
 use Rattle.judge.specs.declared.point.Gate.the-variants.{Open, Shut}
@@ -88,52 +87,47 @@ module _ (task slots : List ℕ) (x : ℕ) where
 
 -- ---- from what a job answers to the reply
 
-module _ (task slots : List ℕ) (x : ℕ) (j : Job) (way : gated task slots x ≡ Open j) where
+-- A gate r that is open.
+module _ (task slots : List ℕ) (x : ℕ) {r : Gate} {j : Job} (is : r ≡ gated task slots x) (let-in : r ≡ Open j) where
   entered : (pointRefusal task slots x ≡ 0) × (j ≡ jobOf (taskRecord task))
-  entered = opened task slots x j way
+  entered = opened task slots x j (sym is ∙ let-in)
 
-  pub enter-number : 0 ≡ pointRefusal task slots x
-  enter-number = sym (entered .0)
+  pub enter-asked : Good slots j × (x < 2 * j .wheel .w)
+  enter-asked = rw (entered .1) (open-inside task slots x (entered .0))
 
-  pub enter-good : Good slots j
-  enter-good = rw (entered .1) (open-inside task slots x (entered .0) .0)
+  replies :
+      {A : Type 0} (f : Job → A) (a none : A) → a ≡ f j
+      → (0 ≡ pointRefusal task slots x) × (a ≡ ifNone (pointRefusal task slots x) (f (jobOf (taskRecord task))) none)
+  replies f a none e = (sym (entered .0), e ∙ ap f (entered .1) ∙ sym (none-left _ _ _ (entered .0)))
 
-  pub enter-inside : x < 2 * j .wheel .w
-  enter-inside = rw (entered .1) (open-inside task slots x (entered .0) .1)
-
-  entered-as : {A : Type 0} (f : Job → A) (a none : A) → a ≡ f j → a ≡ ifNone (pointRefusal task slots x) (f (jobOf (taskRecord task))) none
-  entered-as f a none e = e ∙ ap f (entered .1) ∙ sym (none-left _ _ _ (entered .0))
-
-  pub enter-supply : (s : ℕ) → s ≡ supply 2 (jobTicks slots j) (j .task .d) x → s ≡ suppliedAt task slots x
+  pub enter-supply : (s : ℕ) → s ≡ jobSupply slots j x → (0 ≡ pointRefusal task slots x) × (s ≡ suppliedAt task slots x)
   unfolding suppliedAt ticksOf boardOf
-  enter-supply s e = entered-as (λ (y : Job). supply 2 (jobTicks slots y) (y .task .d) x) s 0 e
+  enter-supply s e = replies (λ y. jobSupply slots y x) s 0 e
 
-  pub enter-margin : (g : ℤ) → g ≡ margin 2 (jobTicks slots j) (asked (j .task)) x → g ≡ marginAt task slots x
+  pub enter-margin : (g : ℤ) → g ≡ jobMargin slots j x → (0 ≡ pointRefusal task slots x) × (g ≡ marginAt task slots x)
   unfolding marginAt ticksOf boardOf
-  enter-margin g e = entered-as (λ (y : Job). margin 2 (jobTicks slots y) (asked (y .task)) x) g (pos 0) e
+  enter-margin g e = replies (λ y. jobMargin slots y x) g (pos 0) e
 
-  pub enter-count : (n : ℕ) → n ≡ count 2 (jobTicks slots j) (asked (j .task)) x → n ≡ countedAt task slots x
+  pub enter-count : (n : ℕ) → n ≡ jobCount slots j x → (0 ≡ pointRefusal task slots x) × (n ≡ countedAt task slots x)
   unfolding countedAt ticksOf boardOf
-  enter-count n e = entered-as (λ (y : Job). count 2 (jobTicks slots y) (asked (y .task)) x) n 0 e
+  enter-count n e = replies (λ y. jobCount slots y x) n 0 e
 
-module _ (task slots : List ℕ) (x m : ℕ) (shut : gated task slots x ≡ Shut m) where
+-- A gate r that is shut.
+module _ (task slots : List ℕ) (x : ℕ) {r : Gate} {m : ℕ} (is : r ≡ gated task slots x) (shut : r ≡ Shut m) where
   refused : (m ≡ pointRefusal task slots x) × (m ≡ 0 → ⊥)
-  refused = closed task slots x m shut
+  refused = closed task slots x m (sym is ∙ shut)
 
-  nothing : {A : Type 0} (a b : A) → b ≡ ifNone (pointRefusal task slots x) a b
-  nothing a b = sym (none-right _ a b (λ z. refused .1 (refused .0 ∙ z)))
+  nothing : {A : Type 0} (a b : A) → (m ≡ pointRefusal task slots x) × (b ≡ ifNone (pointRefusal task slots x) a b)
+  nothing a b = (refused .0, sym (none-right _ a b (λ z. refused .1 (refused .0 ∙ z))))
 
-  pub shut-number : m ≡ pointRefusal task slots x
-  shut-number = refused .0
-
-  pub shut-supply : 0 ≡ suppliedAt task slots x
+  pub shut-supply : (m ≡ pointRefusal task slots x) × (0 ≡ suppliedAt task slots x)
   unfolding suppliedAt
   shut-supply = nothing _ 0
 
-  pub shut-margin : pos 0 ≡ marginAt task slots x
+  pub shut-margin : (m ≡ pointRefusal task slots x) × (pos 0 ≡ marginAt task slots x)
   unfolding marginAt
   shut-margin = nothing _ (pos 0)
 
-  pub shut-count : 0 ≡ countedAt task slots x
+  pub shut-count : (m ≡ pointRefusal task slots x) × (0 ≡ countedAt task slots x)
   unfolding countedAt
   shut-count = nothing _ 0

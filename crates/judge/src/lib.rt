@@ -1,7 +1,5 @@
 // The public questions of a task record and a slot buffer. Every byte string gets its reply: bad records are refused by number, in the one
 // fixed order, and a refusal writes only what docs/RULES.md names.
-pub mod jobs;
-mod lend;
 mod point;
 
 ghost use mathlib.Core.Path.{_≡_};
@@ -112,7 +110,7 @@ pub fn judge(task: &[u8], slots: &[u8], reply: &mut [u8]) -> u32
     match records::check(r, slots) {
         Checked::Refused(bad) => refuse(reply, id, bad),
         Checked::Accepted(job) => {
-            let p = lend::worst(slots, job);
+            let p = jobs::worst(slots, job);
             answer(reply, id, job.task, p);
             0
         }
@@ -129,7 +127,7 @@ pub fn supply(task: &[u8], slots: &[u8], offset: u64) -> Supplied
             supply: 0,
         },
         Gate::Open(job) => {
-            let found = lend::supply(slots, job, offset as usize);
+            let found = jobs::supply(slots, job, offset as usize);
             Supplied {
                 number: 0,
                 supply: found as u32,
@@ -149,7 +147,7 @@ pub fn margin(task: &[u8], slots: &[u8], offset: u64) -> Measured
         },
         Gate::Open(job) => Measured {
             number: 0,
-            margin: lend::margin(slots, job, offset as usize),
+            margin: jobs::margin(slots, job, offset as usize),
         },
     }
 }
@@ -165,7 +163,7 @@ pub fn count(task: &[u8], slots: &[u8], offset: u64) -> Counted
         },
         Gate::Open(job) => Counted {
             number: 0,
-            count: lend::count(slots, job, offset as usize),
+            count: jobs::count(slots, job, offset as usize),
         },
     }
 }

@@ -1,5 +1,6 @@
 -- docs/RULES.md, refusals 4, 6 to 10, 19 and the size of a grant's wheel in 12, with the bounds they go by. Definitions only.
 --
+--     most..                      the bounds, each before the refusal that goes by it
 --     outside x most              x is 0 or above most
 --     idRefusal id                19 for an id that no slot can have as its owner
 --     wheelRefusal w              4 for a bad wheel
@@ -30,8 +31,17 @@ mostTicks = 16384
 abbrev pub mostSlots : ℕ
 mostSlots = 512
 
+unfoldable pub outside : ℕ → ℕ → Bool
+outside x most = eqb x 0 || ltb most x
+
 abbrev pub mostId : ℕ
 mostId = 65535
+
+unfoldable pub idRefusal : ℕ → ℕ
+idRefusal id = 19 when ltb mostId id
+
+unfoldable pub wheelRefusal : ℕ → ℕ
+wheelRefusal w = 4 when outside w mostTicks
 
 abbrev pub mostNeed : ℕ
 mostNeed = 1000000
@@ -42,18 +52,6 @@ mostPeriod = 1000000
 abbrev pub mostStrips : ℕ
 mostStrips = 1024
 
-abbrev pub mostGranted : ℕ
-mostGranted = 64
-
-unfoldable pub outside : ℕ → ℕ → Bool
-outside x most = eqb x 0 || ltb most x
-
-unfoldable pub idRefusal : ℕ → ℕ
-idRefusal id = 19 when ltb mostId id
-
-unfoldable pub wheelRefusal : ℕ → ℕ
-wheelRefusal w = 4 when outside w mostTicks
-
 unfoldable pub taskRefusal : ℕ → ℕ → ℕ → ℕ → ℕ → ℕ
 taskRefusal e D h m k =
     6 when outside e mostNeed
@@ -61,6 +59,9 @@ taskRefusal e D h m k =
     otherwise 8 when outside D h
     otherwise 9 when outside k mostStrips
     otherwise 10 when ltb k m
+
+abbrev pub mostGranted : ℕ
+mostGranted = 64
 
 unfoldable pub gridRefusal : ℕ → ℕ → ℕ → ℕ
 gridRefusal N v loss = 12 when (outside N mostGranted || eqb v 0 || ltb mostTicks (N * v) || ltb v loss)

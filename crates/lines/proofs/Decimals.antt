@@ -43,11 +43,11 @@ enough (suc s) (suc t) n a b =
     ∙ sym (digits-more t n l))
     (small-or-long n)
 
-pub decimal-small : (n : ℕ) → n < 10 → decimal n ≡ glyph n ∷ []
+decimal-small : (n : ℕ) → n < 10 → decimal n ≡ glyph n ∷ []
 unfolding decimal
 decimal-small n l = digits-small n n l
 
-pub decimal-more : (n : ℕ) → 10 ≤ n → decimal n ≡ decimal (n / 10) ++ (glyph (n % 10) ∷ [])
+decimal-more : (n : ℕ) → 10 ≤ n → decimal n ≡ decimal (n / 10) ++ (glyph (n % 10) ∷ [])
 unfolding decimal
 decimal-more n l =
     digits-more n n l
@@ -65,7 +65,7 @@ pub room-last :
 room-last n at l r e b = omega (arith, more-length n l)
 
 -- A number below a power of ten has no more digits than the power.
-pub decimal-length : (k n : ℕ) → n < 10 ^ suc k → length (decimal n) ≤ suc k
+decimal-length : (k n : ℕ) → n < 10 ^ suc k → length (decimal n) ≤ suc k
 decimal-length zero n l = omega (arith, small-length n (rw (pow-suc 10 0) at l))
 decimal-length (suc k) n l =
     let shorter : n / 10 < 10 ^ suc k = div-lt-iff-lt-mul {k = 10} (omega arith) .1 (rw (pow-suc 10 (suc k)) at l) in
@@ -97,8 +97,8 @@ pub same-digits : {n x : ℕ} (most : ℕ) → n ≡ x → length (decimal x) < 
 same-digits most e l = rw e l
 
 pub put-field :
-    {n x at e : ℕ} {b d : List ℕ} (most stop : ℕ) → n ≡ x → length (decimal x) < most → Put (field n stop) b at e d
+    {n x at e : ℕ} {b d : List ℕ} (most stop : ℕ) → n ≡ x → length (decimal n) < most → Put (field n stop) b at e d
     → Put (field x stop) b at e d × (e ≤ at + most)
 put-field {n} {x} {at} {e} {b} {d} most stop s l p =
     let q : Put (field x stop) b at e d = rw s at p in
-    (q, omega (arith, q .behind, length-append (decimal x) (stop ∷ [])))
+    (q, omega (arith, p .behind, length-append (decimal n) (stop ∷ [])))

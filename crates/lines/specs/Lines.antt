@@ -1,5 +1,7 @@
 -- docs/RULES.md, "The printed sheet": an answer record as a line of the sheet. Definitions only.
 --
+--     space, newline     what stands behind a number
+--     longestFour, longestTwo, longestLine    how long the numbers in four and in two bytes with what stands behind them get, and a line of them
 --     glyph d            the character of the digit d
 --     digits s n         n in decimal, s digits at most
 --     decimal n          n in decimal, no zero in front; 0 is "0"
@@ -18,12 +20,6 @@ use lib.Dec.{eqb, leb, ltb}
 use lib.ListN.{length, take, drop}
 use Rattle.octets.specs.Octets.{le2, le4, over}
 use Rattle.records.specs.Records.{replyBytes}
-
-abbrev pub space : ℕ
-space = 32
-
-abbrev pub newline : ℕ
-newline = 10
 
 -- Ten digits for four bytes, five for two, and the character behind each.
 abbrev pub longestFour : ℕ
@@ -51,6 +47,12 @@ decimal n = digits (suc n) n
 
 abbrev pub field : ℕ → ℕ → List ℕ
 field n stop = decimal n ++ (stop ∷ [])
+
+abbrev pub space : ℕ
+space = 32
+
+abbrev pub newline : ℕ
+newline = 10
 
 unfoldable pub lineOf : List ℕ → List ℕ
 lineOf l =

@@ -8,13 +8,12 @@
 --     fallen m h k p         how many of k strips from tick p on meet a 1
 --     Top m h k c t          c is the largest such number, t the first tick that has it
 --     Sized m h k            a wheel of bits, a period and a number of strips within the bounds
---     short n m              what a list of m entries lacks of n; 0 where it is long enough
 use mathlib.Core.Path.{_≡_}
 use mathlib.Core.List.{List}
-use Prim.Native.Nat.{ℕ, _+_, _-_, _*_, _%_, _≤_, _<_}
+use Prim.Native.Nat.{ℕ, _+_, _*_, _%_, _≤_, _<_}
 use lib.ListN.{length, getD}
 use Rattle.limits.specs.Limits.{mostTicks, mostPeriod, mostStrips}
-use Rattle.rules.specs.Sums.{Subset, bit, sum}
+use Rattle.rules.specs.Sums.{Subset, bit, sum, Largest}
 use Rattle.runs.specs.Runs.{Laid}
 
 pub record Drawn (m : List ℕ) (z : Subset) : Type 0 where
@@ -37,11 +36,8 @@ met w z h k p = strips (λ a. bit (z a)) w h k p
 unfoldable pub fallen : List ℕ → ℕ → ℕ → ℕ → ℕ
 fallen m h k p = strips (λ a. getD m a 0) (length m) h k p
 
-pub record Top (m : List ℕ) (h k c t : ℕ) : Type 0 where
-  pub bound : (i : ℕ) → i < length m → fallen m h k i ≤ c
-  pub inside : t < length m
-  pub hit : fallen m h k t ≡ c
-  pub least : (i : ℕ) → i < t → fallen m h k i < c
+abbrev pub Top : List ℕ → ℕ → ℕ → ℕ → ℕ → Type 0
+Top m h k c t = Largest (fallen m h k) (length m) c t
 
 pub record Sized (m : List ℕ) (h k : ℕ) : Type 0 where
   pub some : 0 < length m
@@ -49,6 +45,3 @@ pub record Sized (m : List ℕ) (h k : ℕ) : Type 0 where
   pub period : h ≤ mostPeriod
   pub strips : k ≤ mostStrips
   pub bits : (a : ℕ) → getD m a 0 ≤ 1
-
-abbrev pub short : ℕ → ℕ → ℕ
-short n m = n - m

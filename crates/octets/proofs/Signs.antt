@@ -17,19 +17,19 @@ use Rattle.octets.specs.Octets.{twos, signed}
 -- ---- bits of a number
 
 module _ (x : ℤ) (fits : SFits w32 x) where
-  pub back : toZ w32 (ofZ w32 x) ≡ x
+  back : toZ w32 (ofZ w32 x) ≡ x
   back = toZ-ofZ fits
 
   pub wide-fits : SFits w64 (toZ w32 (ofZ w32 x))
   wide-fits = subst (SFits w64) (sym back) (sfits-widen tt fits)
 
-  pub wide : toZ w64 (ofZ w64 (toZ w32 (ofZ w32 x))) ≡ x
+  wide : toZ w64 (ofZ w64 (toZ w32 (ofZ w32 x))) ≡ x
   wide = toZ-ofZ wide-fits ∙ back
 
 -- Below zero 2^32 more are the bits.
-pub record Turned (x : ℤ) : Type 0 where
-  pub is : (x +ℤ pos 4294967296) ≡ pos (twos x)
-  pub small : twos x < 4294967296
+record Turned (x : ℤ) : Type 0 where
+  is : (x +ℤ pos 4294967296) ≡ pos (twos x)
+  small : twos x < 4294967296
 
 turned : (x : ℤ) → SFits w32 x → ltZ x (pos 0) ≡ true → Turned x
 unfolding twos

@@ -21,9 +21,8 @@ use Rattle.octets.specs.Octets.{le4, over}
 use Rattle.limits.specs.Refusal.{_otherwise_, ifNone}
 use Rattle.limits.specs.Limits.{taskRefusal}
 use Rattle.limits.proofs.Refusals.{both-none, otherwise-none}
-use Rattle.records.specs.Records.{taskRecord, slotAt, slotOf, owned, board, boardOf, ticksOf, askedOf, answerBytes}
+use Rattle.records.specs.Records.{taskRecord, slotAt, slotOf, owned, board, boardOf, ticksOf, askedOf, answerBytes, part}
 use Rattle.records.specs.Refusals.{sizes, room, bodyRefusal, beyond, judgeRefusal, pointRefusal, whichRefusal}
-use Rattle.records.specs.Lookup.{part}
 use Rattle.judge.specs.Judge.{Judged}
 use Rattle.judge.specs.Points.{suppliedAt, marginAt, countedAt}
 use Rattle.quick.specs.Quick.{quickRefusal, Quick}
@@ -218,6 +217,9 @@ sites-agree tasks slots reply after tasks′ slots′ reply′ after′ i j a b 
 
 -- Two packed results of a question at a half tick.
 pub same-packed :
-    {task slots task′ slots′ : List ℕ} {v v′ r r′ : ℕ} → SameAnswers task slots task′ slots′ → (x : ℕ) → v ≡ v′
-    → r ≡ packed (pointRefusal task slots x) v → r′ ≡ packed (pointRefusal task′ slots′ x) v′ → r ≡ r′
-same-packed same x value a b = a ∙ ap₂ packed (same .refused x) value ∙ sym b
+    {task slots task′ slots′ : List ℕ} {v v′ r r′ : ℕ} → Twins task slots task′ slots′ × SameSlots task slots task′ slots′ → (x : ℕ)
+    → (SameAnswers task slots task′ slots′ → v ≡ v′) → r ≡ packed (pointRefusal task slots x) v → r′ ≡ packed (pointRefusal task′ slots′ x) v′
+    → r ≡ r′
+same-packed alike x value a b =
+    let same = others-are-silent _ _ _ _ (alike .0) (alike .1) in
+    a ∙ ap₂ packed (same .refused x) (value same) ∙ sym b

@@ -49,9 +49,13 @@ pub unpacked : (n x r : ℕ) → x < 4294967296 → r ≡ packed n x → (r / 42
 unfolding packed
 unpacked n x r l e = (omega arith, omega arith)
 
+-- What was unpacked is what was packed.
+pub both : {A B : Type 0} {a b c : A} {x y z : B} → (a ≡ b) × (x ≡ y) → (b ≡ c) × (y ≡ z) → (a ≡ c) × (x ≡ z)
+both p q = (p .0 ∙ q .0, p .1 ∙ q .1)
+
 -- ---- a verdict
 
-pub bit-back : (b : Bool) → eqb (bit b) 1 ≡ b
+bit-back : (b : Bool) → eqb (bit b) 1 ≡ b
 unfolding bit
 bit-back true = refl
 bit-back false = refl
@@ -87,7 +91,7 @@ counted-most task slots x most below =
     ⊎-elim (λ none. omega (arith, none .1, below (none .0))) (λ bad. omega (arith, bad .1))
     (either (pointRefusal task slots x) (count 2 (ticksOf (taskRecord task) slots) (askedOf (taskRecord task)) x) 0 refl)
 
-pub counted-small : (task slots : List ℕ) (x : ℕ) → countedAt task slots x ≤ mostStrips
+counted-small : (task slots : List ℕ) (x : ℕ) → countedAt task slots x ≤ mostStrips
 counted-small task slots x =
     counted-most task slots x mostStrips (λ none.
     let good = open-inside task slots x none .0 in
@@ -104,7 +108,7 @@ supply-most : (q : ℕ) (u : Subset) (D p : ℕ) → supply q u D p ≤ q * D
 unfolding supply
 supply-most q u D p = number-le _ (q * D)
 
-pub supplied-small : (task slots : List ℕ) (x : ℕ) → suppliedAt task slots x ≤ 2 * mostPeriod
+supplied-small : (task slots : List ℕ) (x : ℕ) → suppliedAt task slots x ≤ 2 * mostPeriod
 unfolding suppliedAt
 supplied-small task slots x =
     ⊎-elim

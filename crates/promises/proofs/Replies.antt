@@ -18,9 +18,8 @@ use Rattle.rules.specs.Least.{Least}
 use Rattle.octets.specs.Octets.{le2, le4, twos, signed, over}
 use Rattle.octets.proofs.Signs.{twos-small, signed-twos}
 use Rattle.limits.proofs.Refusals.{when-false, otherwise-none, otherwise-some}
-use Rattle.records.specs.Records.{taskBytes, slotBytes, replyBytes, taskRecord, ticksOf, askedOf, answerBytes}
+use Rattle.records.specs.Records.{taskBytes, slotBytes, replyBytes, taskRecord, ticksOf, askedOf, answerBytes, whole, part}
 use Rattle.records.specs.Refusals.{sizes, room, bodyRefusal, judgeRefusal}
-use Rattle.records.specs.Lookup.{whole, part}
 use Rattle.records.proofs.Parts.{sizes-one, sizes-good}
 use Rattle.records.proofs.Accepts.{body-high}
 use Rattle.judge.specs.Judge.{Judged, Answered}
@@ -28,7 +27,7 @@ use Rattle.walk.specs.Walk.{place}
 use Rattle.walk.proofs.Places.{part-long, part-le2, part-le4}
 use Rattle.site.specs.Site.{Sited}
 use Rattle.site.proofs.Sites.{roomy-none}
-use Rattle.promises.specs.Answers.{Told, SiteTold}
+use Rattle.promises.specs.Answers.{Told, alone, SiteTold, ReadAt}
 use Rattle.promises.specs.declared.read.Answer.{Answer}
 use Rattle.promises.proofs.Bounds.{back2, back4, worst-small, least-fits, body-low}
 
@@ -136,27 +135,26 @@ module _ (task slots reply after : List ℕ) (known : le4 task 0 < 4294967296) w
       wrote-refusal (suc n) more (omega (arith, body-low (taskRecord task) slots)) (j .refused more)
 
   pub told :
-      (a : Answer) → replyBytes ≤ length reply → Judged task slots reply (a .number) after → a .id ≡ le4 after 0
-      → a .refusal ≡ le2 after 4 → a .firm ≡ le2 after 6 → a .drops ≡ le4 after 8 → a .offset ≡ le4 after 12
-      → a .margin ≡ signed (le4 after 16 % 4294967296) → Told task slots reply a
-  told a long j id refusal firm drops offset margin =
+      {n : ℕ} (a : Answer) → replyBytes ≤ length reply → Judged task slots reply (a .number) after → ReadAt after 0 n a
+      → Told task slots reply a
+  told a long j at =
       record {
         number = j .number;
-        id = λ other. id ∙ read other .fields .id;
-        refusal = λ other. refusal ∙ read other .fields .refusal;
-        worst = λ z. let w = read (λ one. omega arith) in rw (drops ∙ w .fields .drops, offset ∙ w .fields .offset) (w .worst z);
-        firm = λ z. let w = read (λ one. omega arith) in rw (firm ∙ w .fields .firm) (w .said z);
+        id = λ other. at .id ∙ read other .fields .id;
+        refusal = λ other. at .refusal ∙ read other .fields .refusal;
+        worst = λ z. let w = read (λ one. omega arith) in rw (at .drops ∙ w .fields .drops, at .offset ∙ w .fields .offset) (w .worst z);
+        firm = λ z. let w = read (λ one. omega arith) in rw (at .firm ∙ w .fields .firm) (w .said z);
         least = λ z. let w = read (λ one. omega arith) in rw (signed-back w) (w .least z);
         zero = λ more.
             let w = read (λ one. omega arith) in
-            rw (firm ∙ w .fields .firm, drops ∙ w .fields .drops, offset ∙ w .fields .offset, signed-back w) (w .none more);
+            rw (at .firm ∙ w .fields .firm, at .drops ∙ w .fields .drops, at .offset ∙ w .fields .offset, signed-back w) (w .none more);
       }
     where
       signed-back : (w : Written task slots (a .number) after) → a .margin ≡ w .margin
       signed-back w =
           let small = twos-small (w .margin) (w .fits) in
           let same : le4 after 16 % 4294967296 ≡ twos (w .margin) = omega (arith, w .fields .margin) in
-          margin ∙ ap signed same ∙ signed-twos (w .margin) (w .fits)
+          at .margin ∙ ap signed same ∙ signed-twos (w .margin) (w .fits)
 
       read : (a .number ≡ 1 → ⊥) → Written task slots (a .number) after
       read other = wrote (a .number) (j .number ∙ from-body task slots reply long (λ one. other (j .number ∙ one))) j
@@ -189,22 +187,31 @@ module _ (tasks slots reply after : List ℕ) (i : ℕ) (less : i < whole tasks)
       otherwise-none _ _ (sym (sizes-good (part tasks i) slots (part-long (taskBytes * i) taskBytes tasks (omega arith)) table))
       ∙ otherwise-none _ _ (when-false 2 _ (le-ltb _ _ roomy-place))
 
-  pub site-told :
-      (a : Answer) → ((j : ℕ) → Fits w8 (getD tasks j 0)) → Sited tasks slots reply (a .number) after
-      → a .id ≡ le4 after (replyBytes * i) → a .refusal ≡ le2 after (replyBytes * i + 4) → a .firm ≡ le2 after (replyBytes * i + 6)
-      → a .drops ≡ le4 after (replyBytes * i + 8) → a .offset ≡ le4 after (replyBytes * i + 12)
-      → a .margin ≡ signed (le4 after (replyBytes * i + 16) % 4294967296) → SiteTold tasks slots reply i a
-  site-told a byte s id refusal firm drops offset margin =
+  -- What was read at a place of the reply is what stands in that place alone.
+  read-alone : {n : ℕ} (a : Answer) → ReadAt after (replyBytes * i) n a → ReadAt (place after i) 0 (a .refusal) (alone a)
+  read-alone a at =
       record {
-        number = s .number;
+        number = refl;
+        id = at .id ∙ ap (le4 after) (sym (add-zero (replyBytes * i))) ∙ read4 0 (omega arith);
+        refusal = at .refusal ∙ read2 4 (omega arith);
+        firm = at .firm ∙ read2 6 (omega arith);
+        drops = at .drops ∙ read4 8 (omega arith);
+        offset = at .offset ∙ read4 12 (omega arith);
+        margin = at .margin ∙ ap (λ n. signed (n % 4294967296)) (read4 16 (omega arith));
+      }
+
+  pub site-told :
+      {n : ℕ} (a : Answer) → ((j : ℕ) → Fits w8 (getD tasks j 0)) → Sited tasks slots reply n after → ReadAt after (replyBytes * i) n a
+      → SiteTold tasks slots reply i a
+  site-told {n} a byte s at =
+      record {
+        number = at .number ∙ s .number;
         told = λ none.
-            let table = roomy-none tasks slots reply (sym (s .number) ∙ none) .table in
-            let judged = s .each none i less in
+            let zero : n ≡ 0 = sym (at .number) ∙ none in
+            let table = roomy-none tasks slots reply (sym (s .number) ∙ zero) .table in
+            let judged = s .each zero i less in
             let written = wrote (part tasks i) slots (place reply i) (place after i) (small-id byte) _ (by-numbers table) judged in
             let same : a .refusal ≡ judgeRefusal (part tasks i) slots (place reply i) =
-            refusal ∙ read2 4 (omega arith) ∙ written .fields .refusal in
-            told (part tasks i) slots (place reply i) (place after i) (small-id byte) _ roomy-place (rw same judged)
-            (id ∙ ap (le4 after) (sym (add-zero (replyBytes * i))) ∙ read4 0 (omega arith)) (refusal ∙ read2 4 (omega arith))
-            (firm ∙ read2 6 (omega arith)) (drops ∙ read4 8 (omega arith)) (offset ∙ read4 12 (omega arith))
-            (margin ∙ ap (λ n. signed (n % 4294967296)) (read4 16 (omega arith)));
+            at .refusal ∙ read2 4 (omega arith) ∙ written .fields .refusal in
+            told (part tasks i) slots (place reply i) (place after i) (small-id byte) _ roomy-place (rw same judged) (read-alone a at);
       }

@@ -16,8 +16,7 @@ use Rattle.rules.proofs.Worst.{worst-unique}
 use Rattle.rules.proofs.Least.{least-unique}
 use Rattle.rules.proofs.Grants.{grant-unique}
 use Rattle.limits.proofs.Refusals.{clash}
-use Rattle.records.specs.Records.{taskRecord, answerBytes}
-use Rattle.records.specs.Lookup.{part}
+use Rattle.records.specs.Records.{taskRecord, answerBytes, part}
 use Rattle.records.specs.Troubles.{aboutSlot, FirstAt, Placed}
 use Rattle.records.specs.declared.board.Trouble.{Trouble}
 use Rattle.judge.specs.Judge.{Judged, Answered}
@@ -29,6 +28,13 @@ use Rattle.lines.specs.Lines.{lineOf}
 use Rattle.sheets.specs.Sheets.{Row, Rows, none, more, Sheet, bad, rest}
 use Rattle.fiddlequill.specs.Packed.{packed}
 use Rattle.promises.specs.Settled.{JudgeSettled, SiteSettled, WhichSettled, PackedWhichSettled, PointSettled, PointsSettled, PackedPointSettled, PackedPointsSettled, QuickSettled, PackedQuickSettled, GrantSettled, PackedSettled, LookupSettled, PutSettled, SheetSettled}
+
+-- Calls on equal buffers are calls on one.
+pub twice :
+    {P : List ℕ → ℕ → List ℕ → Type 0} {b b′ : List ℕ} {n n′ : ℕ} {after after′ : List ℕ}
+    → ((b : List ℕ) (n n′ : ℕ) (after after′ : List ℕ) → P b n after → P b n′ after′ → (n ≡ n′) × (after ≡ after′))
+    → b ≡ b′ → P b n after → P b′ n′ after′ → (n ≡ n′) × (after ≡ after′)
+twice settled same p q = settled _ _ _ _ _ (rw same at p) q
 
 -- ---- judging
 

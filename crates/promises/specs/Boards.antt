@@ -21,9 +21,8 @@ use mathlib.Core.List.{List, [], _∷_, _++_}
 use Prim.Native.Nat.{ℕ, zero, suc, _<_}
 use lib.ListN.{take}
 use Rattle.rules.specs.Usable.{Slot, usable, tableOf}
-use Rattle.records.specs.Records.{taskRecord, slotAt, slotOf, owned, ticksOf, askedOf}
+use Rattle.records.specs.Records.{taskRecord, slotAt, slotOf, owned, ticksOf, askedOf, whole, part}
 use Rattle.records.specs.Refusals.{pointRefusal, whichRefusal}
-use Rattle.records.specs.Lookup.{whole, part}
 use Rattle.records.specs.declared.TaskRecord.{TaskRecord}
 use Rattle.judge.specs.Judge.{Judged}
 use Rattle.judge.specs.Points.{suppliedAt, marginAt, countedAt}

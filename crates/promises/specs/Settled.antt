@@ -5,7 +5,7 @@ use mathlib.Core.Bool.{Bool}
 use mathlib.Core.List.{List}
 use Prim.Native.Nat.{ℕ}
 use Rattle.records.specs.Refusals.{pointRefusal}
-use Rattle.records.specs.Lookup.{lookedUp}
+use Rattle.lookup.specs.Lookup.{lookedUp}
 use Rattle.records.specs.declared.board.Trouble.{Trouble}
 use Rattle.which.specs.Which.{Which}
 use Rattle.judge.specs.Judge.{Judged}
@@ -80,7 +80,7 @@ PackedSettled =
     (l : List ℕ) (v loss e D h m k r r′ : ℕ) (after after′ : List ℕ)
     → PackedGrant l v loss e D h m k r after → PackedGrant l v loss e D h m k r′ after′ → (r ≡ r′) × (after ≡ after′)
 
--- records::lookup: the part.
+-- lookup::lookup: the part.
 abbrev pub LookupSettled : Type 0
 LookupSettled =
     (site factory : List ℕ) (id : ℕ) (part part′ : List ℕ)

@@ -3,15 +3,14 @@ ghost use mathlib.Core.Path.{_≡_};
 ghost use Prim.Native.Nat.{_+_, _*_, _/_, _%_, _≤_, _<_};
 ghost use lib.ListN.{length};
 ghost use Rattle.rules.specs.Sums.{bit};
-ghost use Rattle.records.specs.Records.{replyBytes};
+ghost use Rattle.records.specs.Records.{replyBytes, whole};
 ghost use Rattle.records.specs.Refusals.{pointRefusal};
-ghost use Rattle.records.specs.Lookup.{whole};
 ghost use Rattle.which.specs.Which.{Which};
 ghost use Rattle.octets.specs.Octets.{le4, signed};
 ghost use Rattle.judge.specs.Points.{suppliedAt, marginAt, countedAt};
 ghost use Rattle.quick.specs.Quick.{Quick};
 ghost use Rattle.grants.specs.Grants.{GrantCall};
-ghost use Rattle.promises.specs.Answers.{Told, SiteTold};
+ghost use Rattle.promises.specs.Answers.{Told, SiteTold, ReadAt};
 use judge::Measured;
 use quick::Verdict;
 use records::board::Trouble;
@@ -56,29 +55,11 @@ fn signed_four(s: &[u8], at: usize) -> i32
     octets::signed((octets::four(s, at) % 4294967296) as u32)
 }
 
-pub fn judge(task: &[u8], slots: &[u8], reply: &mut [u8]) -> Answer
-    requires { ⌜ replyBytes ≤ length (now reply) ⌝ }
-    ensures { λ r. ⌜ Told (now (task .entry)) (now (slots .entry)) (now (reply .entry)) r ⌝ }
+// The number that a call gave, and the fields of the answer record at place `at` of its reply.
+fn fields(number: u32, reply: &[u8], at: usize) -> Answer
+    requires { ⌜ at + replyBytes ≤ length (now reply) ⌝ }
+    ensures { λ r. ⌜ ReadAt (now (reply .entry)) at number r ⌝ }
 {
-    let number = fiddlequill::fiddlequill_judge(task, slots, reply);
-    Answer {
-        number,
-        id: octets::four(reply, 0),
-        refusal: octets::two(reply, 4),
-        firm: octets::two(reply, 6),
-        drops: octets::four(reply, 8),
-        offset: octets::four(reply, 12),
-        margin: signed_four(reply, 16),
-    }
-}
-
-// The number that a whole site gets, and the fields of record i's answer, from its place in the reply.
-pub fn site(tasks: &[u8], slots: &[u8], reply: &mut [u8], i: usize) -> Answer
-    requires { ⌜ (i < whole (now tasks)) × (replyBytes * whole (now tasks) ≤ length (now reply)) ⌝ }
-    ensures { λ r. ⌜ SiteTold (now (tasks .entry)) (now (slots .entry)) (now (reply .entry)) i r ⌝ }
-{
-    let number = fiddlequill::fiddlequill_site(tasks, slots, reply);
-    let at = records::answer::Answer::BYTES * i;
     Answer {
         number,
         id: octets::four(reply, at),
@@ -88,6 +69,23 @@ pub fn site(tasks: &[u8], slots: &[u8], reply: &mut [u8], i: usize) -> Answer
         offset: octets::four(reply, at + 12),
         margin: signed_four(reply, at + 16),
     }
+}
+
+pub fn judge(task: &[u8], slots: &[u8], reply: &mut [u8]) -> Answer
+    requires { ⌜ replyBytes ≤ length (now reply) ⌝ }
+    ensures { λ r. ⌜ Told (now (task .entry)) (now (slots .entry)) (now (reply .entry)) r ⌝ }
+{
+    let number = fiddlequill::fiddlequill_judge(task, slots, reply);
+    fields(number, reply, 0)
+}
+
+// The number that a whole site gets, and the fields of record i's answer, from its place in the reply.
+pub fn site(tasks: &[u8], slots: &[u8], reply: &mut [u8], i: usize) -> Answer
+    requires { ⌜ (i < whole (now tasks)) × (replyBytes * whole (now tasks) ≤ length (now reply)) ⌝ }
+    ensures { λ r. ⌜ SiteTold (now (tasks .entry)) (now (slots .entry)) (now (reply .entry)) i r ⌝ }
+{
+    let number = fiddlequill::fiddlequill_site(tasks, slots, reply);
+    fields(number, reply, records::answer::Answer::BYTES * i)
 }
 
 pub fn which_slot(task: &[u8], slots: &[u8]) -> Trouble

@@ -1,6 +1,6 @@
 // Every public function called twice on equal inputs: the results are equal, and so is every lent buffer.
 ghost use mathlib.Core.Path.{_≡_};
-ghost use Rattle.records.specs.Lookup.{lookedUp};
+ghost use Rattle.lookup.specs.Lookup.{lookedUp};
 use grants::Granted;
 use judge::Counted;
 use judge::Measured;
@@ -148,8 +148,8 @@ fn alike(one: &[u8], other: &[u8])
 pub fn lookup<'a>(site: &'a [u8], factory: &'a [u8], id: u32) -> &'a [u8]
     ensures { λ r. ⌜ now r ≡ lookedUp (now (site .entry)) (now (factory .entry)) id ⌝ }
 {
-    let one = records::lookup::lookup(site, factory, id);
-    let other = records::lookup::lookup(site, factory, id);
+    let one = lookup::lookup(site, factory, id);
+    let other = lookup::lookup(site, factory, id);
     alike(one, other);
     other
 }

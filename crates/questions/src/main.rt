@@ -61,7 +61,7 @@ fn words(s: &[u8]) {
 
 // The length of what the lookup finds, then what it is.
 fn found<'a>(site: &'a [u8], factory: &'a [u8], id: u32) {
-    let r = records::lookup::lookup(site, factory, id);
+    let r = lookup::lookup(site, factory, id);
     number(r.len() as u64);
     words(r);
 }

@@ -3,4 +3,3 @@ pub mod Numbers
 pub mod Walk
 pub mod Checks
 pub mod Accepts
-pub mod Places

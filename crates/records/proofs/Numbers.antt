@@ -12,7 +12,7 @@ use Rattle.records.specs.declared.TaskRecord.{TaskRecord}
 use Rattle.records.specs.declared.Slot.{Slot}
 
 module _ (P : ℕ → Type 0) (none : P 0) where
-  pub slots-all : P 15 → P 16 → P 17 → P 18 → (w : ℕ) (slot : ℕ → Slot) (n : ℕ) → P (firstBad w slot n)
+  slots-all : P 15 → P 16 → P 17 → P 18 → (w : ℕ) (slot : ℕ → Slot) (n : ℕ) → P (firstBad w slot n)
   unfolding firstBad slotRefusal
   slots-all empty past early lost w slot zero = none
   slots-all empty past early lost w slot (suc n) =

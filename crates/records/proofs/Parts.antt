@@ -1,18 +1,25 @@
--- Refusals 1 and 3, tested part by part. Assumes nothing.
+-- A task record as a part of a file, and refusals 1 and 3, tested one by one. Assumes nothing.
 use mathlib.Core.Path.{_≡_, refl, sym, ap}
 use mathlib.Core.Bool.{Bool, true, false, not, _||_}
 use mathlib.Core.List.{List}
-use Prim.Native.Nat.{ℕ, _+_, _-_, _%_, _≤_, _<_}
+use Prim.Native.Nat.{ℕ, _+_, _-_, _*_, _%_, _≤_, _<_}
 use native.Mathlib.Nat.{zero-lt-suc}
 use native.Mathlib.Omega.{arith}
 use lib.Dec.{ltb, eqb}
-use lib.ListN.{length}
+use lib.ListN.{length, take, drop}
 use borrow.Author.Tests.{lt-ltb, eqb-true, not-false}
 use Rattle.limits.specs.Refusal.{_when_}
 use Rattle.limits.proofs.Refusals.{when-true, when-false, when-none, or-false, first-wrong, next-wrong, both-right}
 use Rattle.rules.proofs.Step.{ltb-same}
-use Rattle.records.specs.Records.{taskBytes, slotBytes}
+use Rattle.records.specs.Records.{taskBytes, slotBytes, part}
 use Rattle.records.specs.Refusals.{sizes}
+
+-- A part is cut from its first byte to the one behind its last.
+pub cut-part : (l : List ℕ) (i : ℕ) → take (taskBytes * i + taskBytes - taskBytes * i) (drop (taskBytes * i) l) ≡ part l i
+unfolding part
+cut-part l i =
+    let e : taskBytes * i + taskBytes - taskBytes * i ≡ taskBytes = omega arith in
+    ap (λ n. take n (drop (taskBytes * i) l)) e
 
 pub sizes-task : (t s : List ℕ) → (length t ≡ taskBytes → ⊥) → 1 ≡ sizes t s
 unfolding sizes

@@ -2,4 +2,3 @@ pub mod Records
 pub mod Refusals
 pub mod Troubles
 pub mod Jobs
-pub mod Lookup

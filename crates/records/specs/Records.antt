@@ -1,6 +1,8 @@
 -- docs/RULES.md, "Records": task, slot and answer records. Definitions only.
 --
 --     taskBytes, slotBytes, replyBytes    how long each of them is
+--     whole l                      how many whole task records l has; bytes behind the last are ignored
+--     part l i                     the bytes of task record i of l
 --     taskRecord l                 the numbers of a task record's bytes
 --     slotAt l first i             the numbers of slot record first + i of the slot buffer l
 --     slotOf s                     the rules' slot of a slot record
@@ -11,9 +13,10 @@
 --     askedOf r                    the rules' task of a task record
 --     answerBytes id n f c o g     an answer record: id, refusal number, firm 1 or 0, worst count, worst offset, least margin
 use mathlib.Core.List.{List, _++_}
-use Prim.Native.Nat.{ℕ, _+_, _*_}
+use Prim.Native.Nat.{ℕ, _+_, _*_, _/_}
 use lib.Dec.{eqb}
 use lib.IntN.{ℤ}
+use lib.ListN.{length, take, drop}
 use Rattle.octets.specs.Octets.{le2, le4, bytes2, bytes4, twos}
 use Rattle.rules.specs.Sums.{Subset}
 use Rattle.rules.specs.Supply as rules
@@ -24,11 +27,11 @@ use Rattle.records.specs.declared.Slot as code
 abbrev pub taskBytes : ℕ
 taskBytes = 32
 
-abbrev pub slotBytes : ℕ
-slotBytes = 12
+abbrev pub whole : List ℕ → ℕ
+whole l = length l / taskBytes
 
-abbrev pub replyBytes : ℕ
-replyBytes = 20
+unfoldable pub part : List ℕ → ℕ → List ℕ
+part l i = take taskBytes (drop (taskBytes * i) l)
 
 abbrev pub taskRecord : List ℕ → TaskRecord
 taskRecord l =
@@ -43,6 +46,9 @@ taskRecord l =
       first = le2 l 28;
       count = le2 l 30;
     }
+
+abbrev pub slotBytes : ℕ
+slotBytes = 12
 
 unfoldable pub slotAt : List ℕ → ℕ → ℕ → code.Slot
 slotAt l first i =
@@ -71,6 +77,9 @@ ticksOf r l = usable (r .w) (boardOf r l)
 
 abbrev pub askedOf : TaskRecord → rules.Task
 askedOf r = record { e = r .e; D = r .d; h = r .h; m = r .m; k = r .k }
+
+abbrev pub replyBytes : ℕ
+replyBytes = 20
 
 abbrev pub answerBytes : ℕ → ℕ → ℕ → ℕ → ℕ → ℤ → List ℕ
 answerBytes id n f c o g = bytes4 id ++ bytes2 n ++ bytes2 f ++ bytes4 c ++ bytes4 o ++ bytes4 (twos g)

@@ -2,7 +2,8 @@
 --
 --     sizes, room, range         1, 2 and 3
 --     slotRefusal w b s          15 to 18: what is wrong with slot s behind a slot that ends at b, 0 for nothing
---     troubleAt w slot i         the same of slot i of a table
+--     endBefore slot i           where the slot before slot i ends, 0 before the first
+--     troubleAt w slot i         what is wrong with slot i of a table
 --     firstBad w slot n          the number of the first bad one of n slots, 0 for none
 --     tableRefusal w slot n      14 for too many slots, or the first bad one's
 --     slotsRefusal r l           the same of the table that a task record selects
@@ -13,7 +14,8 @@
 --     pointRefusal t l x         as every question at a half tick x checks them: 1, the body's, 11
 --     whichRefusal t l           as the question which slot is bad checks them: 1, the board's
 --     boarded r l                the wheel of a task record whose table is good, or its refusal
---     checked r l                what an accepted task record is turned into, or its refusal
+--     jobOf r                    what an accepted task record is turned into
+--     checked r l                that, or its refusal
 --
 -- The part's first slot has nothing before it: the record in front of `first` isn't the previous slot. Every record of the part is tested,
 -- and the slot before it is the record before it, whoever owns them.

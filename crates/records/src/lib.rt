@@ -1,7 +1,6 @@
-// Task, slot and answer records: reading them, refusing them in the one fixed order, and looking a task up by its id.
+// Task, slot and answer records: reading them, and refusing them in the one fixed order.
 pub mod answer;
 pub mod board;
-pub mod lookup;
 
 ghost use mathlib.Core.Path.{_≡_};
 ghost use lib.ListN.{length};

@@ -5,7 +5,7 @@
 -- In order: the ridge of late runs; no half tick is above it, and offsets; what is found. Assumes nothing.
 use mathlib.Core.Path.{_≡_, refl, sym, ap, _∙_}
 use mathlib.Core.List.{List}
-use Prim.Native.Nat.{ℕ, zero, suc, _+_, _-_, _*_, _/_, _%_, _≤_, _<_}
+use Prim.Native.Nat.{ℕ, zero, suc, _+_, _*_, _/_, _%_, _≤_, _<_}
 use native.Mathlib.Omega.{arith}
 use lib.IntN.{ℤ}
 use lib.ListN.{length, take}
@@ -13,12 +13,13 @@ use mir.Syntax.{w32}
 use mir.Val.{SFits, toZ, ofZ}
 use mir.Facts.{toZ-ofZ}
 use lib.Seq.{length-take-le}
-use Rattle.rules.specs.Sums.{Subset}
+use Rattle.rules.specs.Sums.{Subset, Largest}
 use Rattle.rules.specs.Supply as rules
 use Rattle.rules.specs.Supply.{dropped, drops, count}
 use Rattle.rules.specs.Worst.{Wheel, Worst}
+use Rattle.rules.proofs.Sums.{by-parity, largest-same}
 use Rattle.rules.proofs.Zones.{count-after, count-before}
-use Rattle.rules.proofs.Worst.{worst-of-best}
+use Rattle.rules.proofs.Worst.{worst-of-largest}
 use Rattle.limits.specs.Limits.{asked, mostTicks}
 use Rattle.limits.specs.declared.Task.{Task}
 use Rattle.runs.specs.Runs.{Laid, Runs}
@@ -26,19 +27,10 @@ use Rattle.maps.specs.Maps.{Drawn, Top}
 use Rattle.maps.proofs.Strips.{met-drawn}
 use Rattle.maps.proofs.Rises.{none-met}
 use Rattle.late.specs.Late.{LateIn}
-use Rattle.room.specs.Room.{Lent, Largest, Topped, Highest, Foremost, Nearest, Tallied}
+use Rattle.room.specs.Room.{Lent, Topped, Highest, Foremost, Nearest, Tallied}
 use Rattle.room.proofs.Sides.{from-side}
 
 -- ---- the ridge of late runs
-
-largest-same : {f g : ℕ → ℕ} {w c a : ℕ} → ((i : ℕ) → i < w → f i ≡ g i) → Largest f w c a → Largest g w c a
-largest-same same top =
-    record {
-      bound = λ i s. rw (same i s) at (top .bound i s);
-      inside = top .inside;
-      hit = sym (same _ (top .inside)) ∙ top .hit;
-      least = λ i s. rw (same i (omega (arith, top .inside))) at (top .least i s);
-    }
 
 pub topped-none : (l : List ℕ) (w h k : ℕ) → length l ≡ 0 → Topped l w h k 0 0
 unfolding Topped
@@ -55,12 +47,7 @@ pub topped-drawn :
     → Top m h k c a → Topped l (length m) h k c a
 unfolding Topped
 topped-drawn l w m h k long drawn c a top z laid =
-    largest-same (λ i _. met-drawn m z (drawn z (rw long at laid)) (laid .wheel .some) h k i) (record {
-      bound = top .bound;
-      inside = top .inside;
-      hit = top .hit;
-      least = top .least;
-    })
+    largest-same (λ i _. met-drawn m z (drawn z (rw long at laid)) (laid .wheel .some) h k i) top
 
 pub highest :
     {g : ℤ} (l : List ℕ) (w : ℕ) (t : Task) (n : ℕ) (late late′ : List ℕ) (x c a : ℕ) → LateIn l w t 1 late n g late′ → x ≡ w
@@ -104,15 +91,6 @@ highest-inside l w t late map c a lent high =
 
 -- ---- no half tick is above it, and offsets
 
--- A half tick is a tick or half a tick after one.
-pub by-parity : (P : ℕ → Type 0) → ((a : ℕ) → P (2 * a)) → ((a : ℕ) → P (2 * a + 1)) → (x : ℕ) → P x
-by-parity P even odd x = go (x / 2) (x % 2) (omega arith) (omega arith)
-  where
-    go : (a r : ℕ) → r < 2 → x ≡ 2 * a + r → P x
-    go a zero s e = let q : x ≡ 2 * a = omega arith in rw q (even a)
-    go a (suc zero) s e = rw e (odd a)
-    go a (suc (suc r)) s e = absurd (omega arith)
-
 module _ (w : ℕ) (u : Subset) (t : rules.Task) {c a : ℕ} (r : Largest (λ i. count 2 u t (2 * i + 1)) w c a) where
   ridge-bound : (x : ℕ) → x < 2 * w → count 2 u t x ≤ c
   ridge-bound =
@@ -123,9 +101,7 @@ module _ (w : ℕ) (u : Subset) (t : rules.Task) {c a : ℕ} (r : Largest (λ i.
   -- Offset 0: no half tick is before it.
   worst-zero : Wheel w u → count 2 u t 0 ≡ c → Worst w u t c 0
   worst-zero wheel e =
-      worst-of-best w u wheel t (record {
-        value = c;
-        place = 0;
+      worst-of-largest w u wheel t (record {
         bound = ridge-bound;
         inside = omega (arith, r .inside);
         hit = e;
@@ -136,9 +112,7 @@ module _ (w : ℕ) (u : Subset) (t : rules.Task) {c a : ℕ} (r : Largest (λ i.
   -- or as told.
   worst-odd : Wheel w u → (a ≡ 0 → count 2 u t 0 ≡ c → ⊥) → Worst w u t c (2 * a + 1)
   worst-odd wheel off =
-      worst-of-best w u wheel t (record {
-        value = c;
-        place = 2 * a + 1;
+      worst-of-largest w u wheel t (record {
         bound = ridge-bound;
         inside = omega (arith, r .inside);
         hit = r .hit;

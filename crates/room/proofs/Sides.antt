@@ -5,7 +5,7 @@ use mathlib.Core.Path.{_≡_, sym, ap, _∙_}
 use mathlib.Core.Logic.{⊎-elim}
 use mathlib.Core.List.{List}
 use Prim.Native.Nat.{ℕ, _+_, _*_, _/_, _%_, _≤_, _<_, min}
-use native.Mathlib.Nat.{mul-comm, mul-left-comm, div-add-mod}
+use native.Mathlib.Nat.{mul-left-comm}
 use native.Mathlib.Omega.{arith}
 use lib.IntN.{ℤ}
 use lib.ListN.{length, getD, take, List·getD-eq-default}
@@ -15,7 +15,7 @@ use Rattle.rules.specs.Supply as rules
 use Rattle.rules.specs.Supply.{dropped, drops, count}
 use Rattle.rules.specs.Worst.{Wheel}
 use Rattle.rules.proofs.Sums.{le-or-lt, bit-le, sum-cong}
-use Rattle.rules.proofs.Step.{dropped-turns}
+use Rattle.rules.proofs.Zones.{tick-mod}
 use Rattle.limits.specs.Limits.{asked, Within, mostPeriod, mostStrips}
 use Rattle.limits.specs.declared.Task.{Task}
 use Rattle.runs.specs.Runs.{Laid, Runs}
@@ -26,14 +26,6 @@ use Rattle.room.specs.Room.{Lent, Tallied}
 
 -- ---- late ticks
 
--- Turned back to the wheel, a strip on either side of a tick fares as before.
-side-turns :
-    (w : ℕ) (u : Subset) → Wheel w u → (t : rules.Task) (side y : ℕ)
-    → dropped 2 u t (2 * (y % w) + side) ≡ dropped 2 u t (2 * y + side)
-side-turns w u wheel t side y =
-    let e : 2 * y + side ≡ 2 * (y % w) + side + 2 * (y / w * w) = omega (arith, div-add-mod y w, mul-comm w (y / w)) in
-    sym (ap (dropped 2 u t) e ∙ dropped-turns w u wheel 2 t (y / w) (2 * (y % w) + side) (omega arith))
-
 pub from-side :
     (w : ℕ) (u : Subset) → Wheel w u → (t : rules.Task) (side n x : ℕ)
     → met w (λ a. dropped 2 u t (2 * a + side)) (t .h) n x ≡ drops 2 u t n (2 * x + side)
@@ -42,7 +34,7 @@ from-side w u wheel t side n x =
     sum-cong _ _ n (λ i _.
     let y : ℕ = x + i * t .h in
     let arrives : 2 * y + side ≡ 2 * x + side + i * (2 * t .h) = omega (arith, mul-left-comm i 2 (t .h)) in
-    ap bit (side-turns w u wheel t side y ∙ ap (dropped 2 u t) arrives))
+    ap bit (sym (tick-mod w u wheel t y side) ∙ ap (dropped 2 u t) arrives))
 
 -- ---- a map of them
 

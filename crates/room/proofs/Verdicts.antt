@@ -19,9 +19,9 @@ use Rattle.rules.specs.Sums.{Subset, bit}
 use Rattle.rules.specs.Supply.{dropped, drops, count}
 use Rattle.rules.specs.Worst.{Firm, firmTest}
 use Rattle.rules.specs.Least.{Painted}
-use Rattle.rules.proofs.Sums.{number-const, number-le}
+use Rattle.rules.proofs.Sums.{by-parity, number-const}
 use Rattle.rules.proofs.Signed.{zero-le}
-use Rattle.rules.proofs.Worst.{worst-exists, firm-agrees}
+use Rattle.rules.proofs.Worst.{worst-exists, firm-agrees, firm-all}
 use Rattle.rules.proofs.Zones.{count-after}
 use Rattle.rules.proofs.Least.{least-tells}
 use Rattle.limits.specs.Limits.{asked}
@@ -32,7 +32,6 @@ use Rattle.excess.specs.Excess.{Says}
 use Rattle.excess.specs.declared.Outcome.the-variants as outcome
 use Rattle.room.specs.Room.{Topped, Nearest, Bears, Decides}
 use Rattle.room.proofs.Sides.{from-side}
-use Rattle.room.proofs.Ridges.{by-parity}
 
 -- ---- what a search or the largest count tells
 
@@ -83,9 +82,8 @@ decides {l = l} {w} {t} b lates bears u laid =
 
 -- With m 0 every strip may drop.
 pub decides-all : (l : List ℕ) (w : ℕ) (t : Task) → t .m ≡ 0 → Decides l w t true
-unfolding Decides Firm count drops
-decides-all l w t none u laid =
-    (λ _ q p q+. omega (arith, number-le (λ i. dropped q u (asked t) (p + i * (q * t .h))) (t .k)), λ _. refl)
+unfolding Decides
+decides-all l w t none u laid = (λ _. firm-all u (asked t) none, λ _. refl)
 
 -- Where the least margin, as a signed local has it, isn't below zero no strip drops.
 pub decides-painted :

@@ -5,7 +5,6 @@
 --     Lent l w t late map       what the work is lent: runs l of a wheel of w ticks, a task, room for its late runs, a map of the wheel
 --     Doubles n a b c d         arrays to double in on n ticks: a and b of bytes, c and d of 16 bits
 --     Lends n l m a b c d       all that a caller lends for wheels of up to n ticks: l for late runs, m for a map, the others to double in
---     Largest f w c a           c is the largest of the values of f below w, and a is the first place that has it
 --     Topped l w h k c a        the largest number of k strips that meet a set, for every set that the runs l lay out, and the first tick that has it
 --     Outlined l m h k o        that number is known, or the map m is drawn, and the largest count along it is that number
 --     Highest l w t c a         the largest count half a tick after a tick, for every set of ticks that the runs lay out, and the first such tick
@@ -16,6 +15,7 @@
 --     Decides l w t b           b says whether such a set of usable ticks is firm (rule 7)
 --     Tallied l w t x c         c strips are dropped from half tick x (rule 4), for every such set
 --     Told l w t ask r          the answer to what was asked: the worst, or the count from a half tick
+--     Asked w ask               the half tick that was asked for lies on the wheel
 --
 -- Side 0 is at the ticks, side 1 half a tick after them.
 use mathlib.Core.Path.{_≡_}
@@ -25,7 +25,7 @@ use mathlib.Core.List.{List}
 use Prim.Native.Nat.{ℕ, _+_, _*_, _≤_, _<_, min}
 use lib.IntN.{ℤ}
 use lib.ListN.{length}
-use Rattle.rules.specs.Sums.{Subset}
+use Rattle.rules.specs.Sums.{Subset, Largest}
 use Rattle.rules.specs.Supply.{count}
 use Rattle.rules.specs.Worst.{Worst, Firm}
 use Rattle.rules.specs.Least.{Least}
@@ -62,12 +62,6 @@ pub record Lends (n : ℕ) (l m a b c d : List ℕ) : Type 0 where
   pub late : lateRoom mostEdges ≤ length l
   pub map : n ≤ length m
   pub doubling : Doubles n a b c d
-
-pub record Largest (f : ℕ → ℕ) (w c a : ℕ) : Type 0 where
-  pub bound : (i : ℕ) → i < w → f i ≤ c
-  pub inside : a < w
-  pub hit : f a ≡ c
-  pub least : (i : ℕ) → i < a → f i < c
 
 unfoldable pub Topped : List ℕ → ℕ → ℕ → ℕ → ℕ → ℕ → Type 0
 Topped l w h k c a = (z : Subset) → Laid l w z → Largest (met w z h k) w c a

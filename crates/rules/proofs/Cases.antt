@@ -24,7 +24,7 @@ use Rattle.rules.specs.Laws.{halfTick}
 use Rattle.rules.specs.Cases.{Case, from, worst, verdict, margin, grant, refusal13, Holds, Each, cases, CasesHold}
 use Rattle.rules.proofs.Sums.{number-cong, and-left, and-right, all, all-at, all-intro}
 use Rattle.rules.proofs.Step.{step-over-q, dropped-mod}
-use Rattle.rules.proofs.Worst.{worst-of-best, firm-agrees}
+use Rattle.rules.proofs.Worst.{worst-of-largest, firm-agrees}
 use Rattle.rules.proofs.Least.{lowest, least-lowest}
 use Rattle.rules.proofs.Total.{slots-turn}
 use Rattle.rules.proofs.Grants.{grid-turns, no-choice}
@@ -107,10 +107,8 @@ worst-yes : (w : ℕ) (u : Subset) → Wheel w u → (t : Task) (c o : ℕ) → 
 unfolding worst?
 worst-yes w u wheel t c o e =
     let f : (x : ℕ) → counted w (table w u t) t x ≡ count 2 u t x = counted-right w u wheel t in
-    worst-of-best w u wheel t
+    worst-of-largest w u wheel t
     (record {
-      value = c;
-      place = o;
       bound = λ i l. rw (← f i) (leb-true _ _ (all-at _ (2 * w) i (left _ _ (left _ _ (left _ _ e))) l));
       inside = ltb-true o (2 * w) (right _ _ e);
       hit = sym (f o) ∙ eqb-true _ _ (right _ _ (left _ _ e));

@@ -9,7 +9,7 @@ use Prim.Native.Nat.{ℕ, zero, suc, _+_, _-_, _*_, _/_, _%_, _≤_, _<_, min}
 use native.Mathlib.Nat.{add-mul, mul-le-mul-left, mod-lt, div-add-mod, le-refl}
 use native.Mathlib.Omega.{arith}
 use lib.IntN.{ℤ, pos, subℕ, _*ℤ_}
-use lib.Signed.{_≤ℤ_, ≤ℤ-refl}
+use lib.Signed.{≤ℤ-refl}
 use borrow.Author.Tests.{ltb-false, lt-ltb, le-ltb}
 use Rattle.rules.specs.Sums.{Subset, Lowest}
 use Rattle.rules.specs.Supply.{Task, supply, margin, dropped}
@@ -187,17 +187,6 @@ least-tells w u t l h =
       λ some. low-painted w u t _ (x .low) (omega (arith, le-sub 0 0 (x .supplied) (t .e) (rw (x .is) at some))),
       λ all. rw (x .is) (sub-le 0 0 (x .supplied) (t .e) (omega (arith, painted-low w u t _ (x .low) all))),
     )
-
--- A strip at the tick that has it.
-pub least-dropped : (w : ℕ) (u : Subset) (t : Task) (l : ℤ) (h : Least w u t l) → (pos 0 ≤ℤ l → ⊥) → dropped 1 u t (h .place) ≡ true
-unfolding low-of-least
-least-dropped w u t l h below =
-    let x = low-of-least w u t l h in
-    low-dropped w u t (x .supplied) (x .low)
-    (⊎-elim
-    (λ (n : t .e ≤ x .supplied). absurd (below (rw (x .is) (sub-le 0 0 (x .supplied) (t .e) (omega arith)))))
-    (λ (n : x .supplied < t .e). n)
-    (le-or-lt (t .e) (x .supplied)))
 
 pub need-lowers : NeedLowers
 unfolding grown

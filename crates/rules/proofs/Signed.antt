@@ -96,10 +96,6 @@ pub zero-le : (z : ℤ) → ltZ z (pos 0) ≡ false → pos 0 ≤ℤ z
 zero-le (pos n) e = leZ-yes (le→leb 0 n (omega arith))
 zero-le (negsuc n) e = absurd (true≢false e)
 
-pub not-zero-le : (z : ℤ) → ltZ z (pos 0) ≡ true → pos 0 ≤ℤ z → ⊥
-not-zero-le (pos n) e h = let l = ltb-true n 0 e in omega arith
-not-zero-le (negsuc n) e h = h .le
-
 -- ---- products
 
 pub sub-times : (q a b : ℕ) → 0 < q → (pos q *ℤ subℕ a b) ≡ subℕ (q * a) (q * b)

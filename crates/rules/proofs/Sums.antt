@@ -2,20 +2,20 @@
 --
 -- Names: sum-.. of `sum`, number-.. of `number`, any-.. of `any`; -cong: equal terms, equal results; -mono: larger terms, larger results;
 -- -split: a range in two parts; -const: one term throughout.
--- In order: order; bits; sums; numbers; some and all; the first largest value. Not here: anything of ticks.
+-- In order: order and parity; bits; sums; numbers; some and all; the first largest value. Not here: anything of ticks.
 -- Assumes nothing.
 use mathlib.Core.Path.{_≡_, refl, sym, ap, _∙_}
 use mathlib.Core.Logic.{_⊎_, inl, inr, ⊎-elim}
 use mathlib.Core.Bool.{Bool, true, false, _||_, _&&_}
-use Prim.Native.Nat.{ℕ, zero, suc, _+_, _-_, _*_, _≤_, _<_, zero-le}
+use Prim.Native.Nat.{ℕ, zero, suc, _+_, _-_, _*_, _/_, _%_, _≤_, _<_, zero-le}
 use native.Mathlib.Nat.{add-zero, add-suc, zero-mul, suc-mul, le-refl, le-step, not-suc-le-zero, le-of-suc-le-suc, eq-or-lt-of-le}
 use native.Mathlib.Numerals.{add-one}
 use native.Mathlib.Omega.{arith}
 use lib.Dec.{leb}
 use borrow.Author.Tests.{leb-true, leb-false}
-use Rattle.rules.specs.Sums.{Subset, bit, sum, number, any}
+use Rattle.rules.specs.Sums.{Subset, bit, sum, number, any, Largest}
 
--- ---- order
+-- ---- order and parity
 
 pub le-or-lt : (a b : ℕ) → (a ≤ b) ⊎ (b < a)
 le-or-lt a b = go (leb a b) refl
@@ -23,6 +23,15 @@ le-or-lt a b = go (leb a b) refl
     go : (t : Bool) → leb a b ≡ t → (a ≤ b) ⊎ (b < a)
     go true e = inl (leb-true a b e)
     go false e = inr (leb-false a b e)
+
+-- What holds of every even number and of every odd one holds of all.
+pub by-parity : (P : ℕ → Type 0) → ((a : ℕ) → P (2 * a)) → ((a : ℕ) → P (2 * a + 1)) → (x : ℕ) → P x
+by-parity P even odd x = go (x / 2) (x % 2) (omega arith) (omega arith)
+  where
+    go : (a r : ℕ) → r < 2 → x ≡ 2 * a + r → P x
+    go a zero s e = let q : x ≡ 2 * a = omega arith in rw q (even a)
+    go a (suc zero) s e = rw e (odd a)
+    go a (suc (suc r)) s e = absurd (omega arith)
 
 -- ---- bits
 
@@ -194,13 +203,20 @@ all-intro f (suc n) h = and-both (all f n) (f n) (all-intro f n (λ i l. h i (le
 
 -- ---- the first largest value
 
+pub largest-same : {f g : ℕ → ℕ} {n c a : ℕ} → ((i : ℕ) → i < n → f i ≡ g i) → Largest f n c a → Largest g n c a
+largest-same same top =
+    record {
+      bound = λ i s. rw (same i s) at (top .bound i s);
+      inside = top .inside;
+      hit = sym (same _ (top .inside)) ∙ top .hit;
+      least = λ i s. rw (same i (omega (arith, top .inside))) at (top .least i s);
+    }
+
+-- Of n + 1 numbers there always is one.
 pub record Best (f : ℕ → ℕ) (n : ℕ) : Type 0 where
   pub value : ℕ
   pub place : ℕ
-  pub bound : (i : ℕ) → i < n → f i ≤ value
-  pub inside : place < n
-  pub hit : f place ≡ value
-  pub least : (i : ℕ) → i < place → f i < value
+  pub largest : Largest f n value place
 
 best-step : (f : ℕ → ℕ) (n : ℕ) (b : Best f (suc n)) (t : Bool) → leb (f (suc n)) (b .value) ≡ t → Best f (suc (suc n))
 best-step f n b true e =
@@ -208,26 +224,30 @@ best-step f n b true e =
     record {
       value = b .value;
       place = b .place;
-      bound = λ i l. ⊎-elim
-          (λ (q : i ≡ suc n). rw q le)
-          (λ m. b .bound i m)
-          (eq-or-lt-of-le (le-of-suc-le-suc l));
-      inside = le-step (b .inside);
-      hit = b .hit;
-      least = b .least;
+      largest = record {
+        bound = λ i l. ⊎-elim
+            (λ (q : i ≡ suc n). rw q le)
+            (λ m. b .largest .bound i m)
+            (eq-or-lt-of-le (le-of-suc-le-suc l));
+        inside = le-step (b .largest .inside);
+        hit = b .largest .hit;
+        least = b .largest .least;
+      };
     }
 best-step f n b false e =
     let gt : b .value < f (suc n) = leb-false (f (suc n)) (b .value) e in
     record {
       value = f (suc n);
       place = suc n;
-      bound = λ i l. ⊎-elim
-          (λ (q : i ≡ suc n). rw q (le-refl _))
-          (λ m. let h = b .bound i m in omega arith)
-          (eq-or-lt-of-le (le-of-suc-le-suc l));
-      inside = le-refl (suc (suc n));
-      hit = refl;
-      least = λ i l. let h = b .bound i l in omega arith;
+      largest = record {
+        bound = λ i l. ⊎-elim
+            (λ (q : i ≡ suc n). rw q (le-refl _))
+            (λ m. let h = b .largest .bound i m in omega arith)
+            (eq-or-lt-of-le (le-of-suc-le-suc l));
+        inside = le-refl (suc (suc n));
+        hit = refl;
+        least = λ i l. let h = b .largest .bound i l in omega arith;
+      };
     }
 
 pub best : (f : ℕ → ℕ) (n : ℕ) → Best f (suc n)
@@ -235,9 +255,11 @@ best f zero =
     record {
       value = f 0;
       place = 0;
-      bound = λ i l. let q : i ≡ 0 = omega arith in rw q (le-refl _);
-      inside = le-refl 1;
-      hit = refl;
-      least = λ i l. absurd (not-suc-le-zero l);
+      largest = record {
+        bound = λ i l. let q : i ≡ 0 = omega arith in rw q (le-refl _);
+        inside = le-refl 1;
+        hit = refl;
+        least = λ i l. absurd (not-suc-le-zero l);
+      };
     }
 best f (suc n) = best-step f n (best f n) (leb (f (suc n)) (best f n .value)) refl

@@ -3,7 +3,7 @@
 -- A strip dropped at a tick is dropped half a tick before it and half a tick after it too. So an even half tick above 0 is no worse than the
 -- odd one before it. An odd half tick is worse than the even one before it only where some strip meets a zone start.
 -- In order: drops beside a tick; going back on the wheel; the worst place; where no zone starts. Assumes nothing.
-use mathlib.Core.Path.{_≡_, refl, sym, ap, subst, _∙_}
+use mathlib.Core.Path.{_≡_, refl, sym, ap, _∙_}
 use mathlib.Core.Logic.{_⊎_, inl, inr}
 use mathlib.Core.Bool.{Bool, true, false, not, _&&_}
 use Prim.Native.Nat.{ℕ, zero, suc, _+_, _-_, _*_, _/_, _%_, _≤_, _<_}
@@ -16,7 +16,7 @@ use Rattle.rules.specs.Supply.{Task, dropped, drops, count}
 use Rattle.rules.specs.Worst.{Wheel, Worst}
 use Rattle.rules.specs.Zone.{ZoneStart, Candidate, back}
 use Rattle.rules.specs.Laws.{halfTick, WorstPlace, NoZones, Alike}
-use Rattle.rules.proofs.Sums.{number-cong, number-mono, or-left, or-right, and-left, and-right, found-or-none, Found}
+use Rattle.rules.proofs.Sums.{by-parity, number-cong, number-mono, or-left, or-right, and-left, and-right, found-or-none, Found}
 use Rattle.rules.proofs.Step.{dropped-even, dropped-odd, dropped-half, dropped-turns}
 
 -- ---- drops beside a tick
@@ -54,7 +54,7 @@ count-before u t a =
 -- ---- going back on the wheel
 
 -- Tick y of the wheel is its remainder, r half ticks after it too.
-tick-mod : (w : ℕ) (u : Subset) → Wheel w u → (t : Task) (y r : ℕ) → dropped 2 u t (2 * y + r) ≡ dropped 2 u t (2 * (y % w) + r)
+pub tick-mod : (w : ℕ) (u : Subset) → Wheel w u → (t : Task) (y r : ℕ) → dropped 2 u t (2 * y + r) ≡ dropped 2 u t (2 * (y % w) + r)
 tick-mod w u wheel t y r =
     let e : 2 * y + r ≡ 2 * (y % w) + r + 2 * (y / w * w) =
     omega (arith, div-add-mod y w, mul-comm w (y / w)) in
@@ -128,22 +128,16 @@ odd-place w u wheel t c b worst (inr none) =
     let z = worst .least (2 * b) (omega arith) in
     absurd (omega arith)
 
-place-by-parity :
-    (w : ℕ) (u : Subset) → Wheel w u → (t : Task) (c b r : ℕ) → r < 2 → Worst w u t c (2 * b + r)
-    → (2 * b + r ≡ 0) ⊎ Candidate w u t (2 * b + r)
-place-by-parity w u wheel t c zero zero l worst = inl refl
-place-by-parity w u wheel t c (suc a) zero l worst =
-    let e : 2 * suc a + 0 ≡ 2 * (a + 1) = omega arith in
-    absurd (never-even w u t c a (rw e at worst))
-place-by-parity w u wheel t c b (suc zero) l worst =
-    inr (odd-place w u wheel t c b worst (found-or-none (meets u t b) (t .k)))
-place-by-parity w u wheel t c b (suc (suc r)) l worst = absurd (omega arith)
-
 pub worst-place : WorstPlace
-worst-place w u wheel t c o worst =
-    let e : o ≡ 2 * (o / 2) + o % 2 = omega arith in
-    subst (λ x. (x ≡ 0) ⊎ Candidate w u t x) (sym e)
-    (place-by-parity w u wheel t c (o / 2) (o % 2) (omega arith) (subst (λ x. Worst w u t c x) e worst))
+worst-place w u wheel t c =
+    by-parity (λ o. Worst w u t c o → (o ≡ 0) ⊎ Candidate w u t o) even
+    (λ b worst. inr (odd-place w u wheel t c b worst (found-or-none (meets u t b) (t .k))))
+  where
+    even : (b : ℕ) → Worst w u t c (2 * b) → (2 * b ≡ 0) ⊎ Candidate w u t (2 * b)
+    even zero worst = inl refl
+    even (suc a) worst =
+        let e : 2 * suc a ≡ 2 * (a + 1) = omega arith in
+        absurd (never-even w u t c a (rw e at worst))
 
 -- ---- where no zone starts
 
@@ -183,13 +177,7 @@ module _ (w : ℕ) (u : Subset) (wheel : Wheel w u) (t : Task) (none : (a : ℕ)
   everywhere :
       (b : Bool) → ((a : ℕ) → dropped 2 u t (2 * a) ≡ b) → ((a : ℕ) → dropped 2 u t (2 * a + 1) ≡ b)
       → (q p : ℕ) → 0 < q → dropped q u t p ≡ b
-  everywhere b even odd q p pos =
-      dropped-half q u t p pos ∙ ap (dropped 2 u t) (omega arith) ∙ go (halfTick q p / 2) (halfTick q p % 2) (omega arith)
-    where
-      go : (a r : ℕ) → r < 2 → dropped 2 u t (2 * a + r) ≡ b
-      go a zero l = rw add-zero (even a)
-      go a (suc zero) l = odd a
-      go a (suc (suc r)) l = absurd (omega arith)
+  everywhere b even odd q p pos = dropped-half q u t p pos ∙ by-parity (λ x. dropped 2 u t x ≡ b) even odd (halfTick q p)
 
   all-alike : (b : Bool) → dropped 2 u t 0 ≡ b → Alike u t
   all-alike true d =

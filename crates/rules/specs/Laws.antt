@@ -21,7 +21,8 @@
 --     GrantExists       a grant exists unless no set of free slots is firm
 --     GrantUnique       there is one grant at most, and none beside refusal 13
 --
--- The running total at x is `number u x`, the usable ticks below x.
+-- What they speak of: halfTick q p, the half tick that stands for p/q; Alike u t, all strips drop at every fraction or none does anywhere;
+-- NoHarder u v s t, a task t on the ticks v that asks no more than s on u. The running total at x is `number u x`, the usable ticks below x.
 use mathlib.Core.Path.{_≡_}
 use mathlib.Core.Logic.{_⊎_, _↔_}
 use mathlib.Core.Bool.{true, false}

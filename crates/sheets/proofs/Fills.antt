@@ -10,9 +10,8 @@ use lib.ListN.{length, take, drop, replicate}
 use lib.Seq.{length-take-le}
 use borrow.Author.Tests.{ltb-true, ltb-false, lt-ltb, le-ltb, le-leb, eq-eqb, ne-eqb}
 use Rattle.io.specs.Counts.{Counts}
-use Rattle.records.specs.Records.{taskBytes, slotBytes, replyBytes}
-use Rattle.records.specs.Lookup.{whole, part}
-use Rattle.records.proofs.Places.{cut-part}
+use Rattle.records.specs.Records.{taskBytes, slotBytes, replyBytes, whole, part}
+use Rattle.records.proofs.Parts.{cut-part}
 use Rattle.judge.specs.Judge.{Judged}
 use Rattle.lines.specs.Lines.{longestLine, refusedLong, lineOf, refusedLine, fitting, lineFor, Put}
 use Rattle.lines.proofs.Texts.{put-none, put-then}
@@ -39,11 +38,11 @@ bad-short l s f = go (ltb mostBytes (length l)) refl
     go false e = ltb-false mostBytes (length l) e
 
 -- What fits is put as it is.
-pub line-is : (a b : List ℕ) (at : ℕ) → length a ≡ replyBytes → at + longestLine ≤ length b → lineFor a b at ≡ lineOf a
+line-is : (a b : List ℕ) (at : ℕ) → length a ≡ replyBytes → at + longestLine ≤ length b → lineFor a b at ≡ lineOf a
 unfolding lineFor fitting
 line-is a b at s l = rw (eq-eqb (length a) replyBytes s, le-leb (at + longestLine) (length b) l)
 
-pub refused-is : (b : List ℕ) (at : ℕ) → at + refusedLong ≤ length b → fitting refusedLong refusedLine b at ≡ refusedLine
+refused-is : (b : List ℕ) (at : ℕ) → at + refusedLong ≤ length b → fitting refusedLong refusedLine b at ≡ refusedLine
 unfolding fitting
 refused-is b at l = rw (le-leb (at + refusedLong) (length b) l)
 

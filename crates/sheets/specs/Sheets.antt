@@ -1,5 +1,6 @@
 -- docs/RULES.md, "The printed sheet": the text that a task file and a slot file give. Definitions only.
 --
+--     mostBytes, mostText   the longest file, and the longest sheet
 --     Row task slots t      t is the line of a whole task record: the answer that judging writes, in decimal
 --     Rows l slots n t      t is the lines of the first n task records of l, one behind the other
 --     rest l                the line of a part record at the end of l, or nothing
@@ -13,8 +14,7 @@ use mathlib.Core.List.{List, [], _++_}
 use Prim.Native.Nat.{ℕ, _+_, _*_, _/_, _%_, _≤_}
 use lib.Dec.{eqb, ltb}
 use lib.ListN.{length, replicate}
-use Rattle.records.specs.Records.{taskBytes, slotBytes, replyBytes}
-use Rattle.records.specs.Lookup.{whole, part}
+use Rattle.records.specs.Records.{taskBytes, slotBytes, replyBytes, whole, part}
 use Rattle.judge.specs.Judge.{Judged}
 use Rattle.lines.specs.Lines.{longestLine, refusedLong, lineOf, refusedLine, Put}
 

@@ -4,7 +4,7 @@ ghost use Prim.Native.Nat.{_+_, _*_, _≤_};
 ghost use lib.ListN.{length};
 ghost use Rattle.io.specs.Counts.{Counts};
 ghost use Rattle.lines.specs.Lines.{longestLine};
-ghost use Rattle.records.specs.Lookup.{whole};
+ghost use Rattle.records.specs.Records.{whole};
 ghost use Rattle.sheets.specs.Sheets.{mostText, bad, RowPut, RowsPut, Filled};
 use records::Slot;
 use records::TaskRecord;

@@ -11,9 +11,8 @@ use borrow.Author.Tests.{le-ltb}
 use Rattle.rules.specs.Sums.{bit}
 use Rattle.octets.specs.Octets.{over}
 use Rattle.limits.proofs.Refusals.{at-next, when-false}
-use Rattle.records.specs.Records.{taskBytes, slotBytes, replyBytes, taskRecord, answerBytes}
+use Rattle.records.specs.Records.{taskBytes, slotBytes, replyBytes, taskRecord, answerBytes, whole, part}
 use Rattle.records.specs.Refusals.{room, bodyRefusal, judgeRefusal}
-use Rattle.records.specs.Lookup.{whole, part}
 use Rattle.records.proofs.Parts.{sizes-good}
 use Rattle.records.proofs.Accepts.{body-high}
 use Rattle.judge.specs.Judge.{Judged}

@@ -11,8 +11,7 @@ use lib.ListN.{length}
 use borrow.Author.Tests.{lt-ltb, le-ltb, eqb-true, not-false, ltb-false}
 use Rattle.limits.specs.Refusal.{_when_, _otherwise_}
 use Rattle.limits.proofs.Refusals.{at-first, at-next, when-true, when-false, when-none, both-none, or-false, first-wrong, next-wrong, both-right}
-use Rattle.records.specs.Records.{taskBytes, slotBytes, replyBytes}
-use Rattle.records.specs.Lookup.{whole}
+use Rattle.records.specs.Records.{taskBytes, slotBytes, replyBytes, whole}
 use Rattle.site.specs.Site.{siteSizes, siteRoom, siteRefusal, Sited}
 use Rattle.walk.specs.Walk.{Roomy, Walked}
 

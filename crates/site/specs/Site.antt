@@ -14,8 +14,7 @@ use Prim.Native.Nat.{ℕ, zero, suc, _*_, _%_, _<_}
 use lib.Dec.{eqb, ltb}
 use lib.ListN.{length, drop}
 use Rattle.limits.specs.Refusal.{_when_, _otherwise_}
-use Rattle.records.specs.Records.{taskBytes, slotBytes, replyBytes}
-use Rattle.records.specs.Lookup.{whole}
+use Rattle.records.specs.Records.{taskBytes, slotBytes, replyBytes, whole}
 use Rattle.walk.specs.Walk.{Alone, JudgedAt}
 
 unfoldable pub siteSizes : List ℕ → List ℕ → ℕ

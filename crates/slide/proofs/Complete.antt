@@ -9,7 +9,8 @@ use native.Mathlib.Nat.{mod-lt, mod-eq-of-lt}
 use native.Mathlib.Numerals.{add-one}
 use native.Mathlib.Omega.{arith}
 use lib.ListN.{length, getD}
-use Rattle.rules.proofs.Sums.{Best, best}
+use Rattle.rules.specs.Sums.{Largest}
+use Rattle.rules.proofs.Sums.{largest-same, Best, best}
 use Rattle.maps.specs.Maps.{Mapped, fallen, Top, Sized}
 use Rattle.maps.proofs.Strips.{strips-turns, met-drawn}
 use Rattle.maps.proofs.Rises.{Start, rise, rise-start}
@@ -37,15 +38,15 @@ candidate l m s k t (z, laid, drawn) inside less =
 pub top-of :
     (l m : List ℕ) (s k c t i : ℕ) → Mapped l m → Round m s k → Starts l m s k c t i → length l ≤ i → Top m s k c t
 top-of l m s k c t i mapped round starts all =
-    let seen = go (b .place) (omega (arith, b .inside)) (λ x less. rw (b .hit) (b .least x less)) in
-    let most = b .bound t (omega (arith, starts .hit .inside)) in
-    let top : b .value ≡ c = omega (arith, starts .hit .count, seen .most, b .hit) in
-    let early : t ≤ b .place = seen .first (b .hit ∙ top) in
+    let seen = go (b .place) (omega (arith, largest .inside)) (λ x less. rw (largest .hit) (largest .least x less)) in
+    let most = largest .bound t (omega (arith, starts .hit .inside)) in
+    let top : b .value ≡ c = omega (arith, starts .hit .count, seen .most, largest .hit) in
+    let early : t ≤ b .place = seen .first (largest .hit ∙ top) in
     record {
-      bound = λ x inside. omega (arith, b .bound x (omega arith));
+      bound = λ x inside. omega (arith, largest .bound x (omega arith));
       inside = starts .hit .inside;
       hit = starts .hit .count;
-      least = λ x less. omega (arith, b .least x (omega arith));
+      least = λ x less. omega (arith, largest .least x (omega arith));
     }
   where
     some : suc (length m - 1) ≡ length m
@@ -53,6 +54,9 @@ top-of l m s k c t i mapped round starts all =
 
     b : Best (fallen m s k) (suc (length m - 1))
     b = best (fallen m s k) (length m - 1)
+
+    largest : Largest (fallen m s k) (suc (length m - 1)) (b .value) (b .place)
+    largest = b .largest
 
     go : (x : ℕ) → x < length m → ((y : ℕ) → y < x → fallen m s k y < fallen m s k x) → Seen m s k c t x
     go zero inside higher = starts .zero
@@ -79,11 +83,4 @@ round-of {m} {h} sized =
 
 pub top-turns : (m : List ℕ) (h k c t : ℕ) → Top m (h % length m) k c t → Top m h k c t
 unfolding fallen
-top-turns m h k c t top =
-    let same : (i : ℕ) → fallen m (h % length m) k i ≡ fallen m h k i = λ i. strips-turns (λ a. getD m a 0) (length m) h k i in
-    record {
-      bound = λ i inside. omega (arith, same i, top .bound i inside);
-      inside = top .inside;
-      hit = sym (same t) ∙ top .hit;
-      least = λ i less. omega (arith, same i, top .least i less);
-    }
+top-turns m h k c t = largest-same (λ i _. strips-turns (λ a. getD m a 0) (length m) h k i)

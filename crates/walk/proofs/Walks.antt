@@ -9,9 +9,8 @@ use lib.ListN.{length, take, drop}
 use lib.Seq.{drop-drop}
 use Rattle.octets.specs.Octets.{le4}
 use Rattle.limits.specs.Limits.{mostTicks}
-use Rattle.records.specs.Records.{taskBytes, replyBytes, taskRecord}
+use Rattle.records.specs.Records.{taskBytes, replyBytes, taskRecord, whole, part}
 use Rattle.records.specs.Refusals.{sizes, jobOf, checked}
-use Rattle.records.specs.Lookup.{whole, part}
 use Rattle.records.specs.declared.TaskRecord.{TaskRecord}
 use Rattle.records.specs.declared.Job.{Job}
 use Rattle.records.specs.declared.Checked.the-variants.{Accepted}

@@ -12,9 +12,8 @@ use mathlib.Core.List.{List}
 use Prim.Native.Nat.{ℕ, _+_, _*_, _%_, _≤_, _<_}
 use lib.ListN.{length, take, drop}
 use Rattle.limits.specs.Limits.{mostTicks}
-use Rattle.records.specs.Records.{slotBytes, replyBytes, taskRecord}
+use Rattle.records.specs.Records.{slotBytes, replyBytes, taskRecord, whole, part}
 use Rattle.records.specs.Refusals.{judgeRefusal}
-use Rattle.records.specs.Lookup.{whole, part}
 use Rattle.judge.specs.Judge.{Judged}
 
 unfoldable pub place : List ℕ → ℕ → List ℕ

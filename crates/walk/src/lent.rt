@@ -2,14 +2,13 @@
 ghost use mathlib.Core.Path.{_≡_};
 ghost use Prim.Native.Nat.{_≤_};
 ghost use lib.ListN.{length};
-ghost use Rattle.limits.specs.Limits.{asked, mostTicks};
-ghost use Rattle.rules.specs.Worst.{Worst};
-ghost use Rattle.rules.specs.Least.{Least};
+ghost use Rattle.limits.specs.Limits.{mostTicks};
 ghost use Rattle.records.specs.Records.{replyBytes, taskRecord};
 ghost use Rattle.records.specs.Refusals.{sizes};
-ghost use Rattle.records.specs.Jobs.{Good, jobTicks};
+ghost use Rattle.records.specs.Jobs.{Good};
 ghost use Rattle.room.specs.Room.{mostEdges, Lends};
 ghost use Rattle.judge.specs.Judge.{Judged};
+ghost use Rattle.jobs.specs.Lent.{Peaked};
 use records::Checked;
 use records::Job;
 use room::Peak;
@@ -28,11 +27,10 @@ fn worst_in(
 ) -> Peak
     requires { ⌜ Good (now slots) job × (length (now runs) ≡ mostEdges) ⌝ }
     requires { ⌜ Lends (job .wheel .w) (now late) (now map) (now low) (now spare) (now here) (now there) ⌝ }
-    ensures { λ r. ⌜ Worst (job .wheel .w) (jobTicks (now (slots .entry)) job) (asked (job .task)) (r .drops) (r .offset) ⌝ }
-    ensures { λ r. ⌜ Least (job .wheel .w) (jobTicks (now (slots .entry)) job) (asked (job .task)) (r .margin) ⌝ }
+    ensures { λ r. ⌜ Peaked (now (slots .entry)) job r ⌝ }
 {
     let wheel = job.wheel;
-    let n = judge::jobs::lay(slots, job, runs);
+    let n = jobs::laid::lay(slots, job, runs);
     room::worst_in(
         &runs[..n],
         wheel.w,

@@ -3,7 +3,7 @@ mod lent;
 mod sizes;
 mod steps;
 
-ghost use Rattle.records.specs.Lookup.{whole};
+ghost use Rattle.records.specs.Records.{whole};
 ghost use Rattle.walk.specs.Walk.{Roomy, Walked};
 
 // All records, in arrays of the size that the largest wheel asks for.

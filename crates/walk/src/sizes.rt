@@ -1,6 +1,6 @@
 // The arrays that a site's records are judged in, cleared once for all of them: as long as its largest wheel asks for, in sizes.
 ghost use Rattle.limits.specs.Limits.{mostTicks};
-ghost use Rattle.records.specs.Lookup.{whole};
+ghost use Rattle.records.specs.Records.{whole};
 ghost use Rattle.walk.specs.Walk.{Roomy, Fitting, Walked};
 use crate::steps;
 use limits::Wheel;

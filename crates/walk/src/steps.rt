@@ -3,7 +3,7 @@ ghost use mathlib.Core.Path.{_≡_};
 ghost use Prim.Native.Nat.{_≤_, _<_};
 ghost use lib.ListN.{length};
 ghost use Rattle.limits.specs.Limits.{mostTicks};
-ghost use Rattle.records.specs.Lookup.{whole};
+ghost use Rattle.records.specs.Records.{whole};
 ghost use Rattle.room.specs.Room.{mostEdges, Lends};
 ghost use Rattle.walk.specs.Walk.{Roomy, Fitting, Placed, Walked};
 use crate::lent;

@@ -1,8 +1,9 @@
 -- `counts::below` meets its contract. The loop's invariant: run i isn't usable and starts at or before x, and `passed` ticks before it are usable.
 -- The measure is what is left of the edges. The laws are in proofs/Along.antt. Assumes nothing.
-use Prim.Native.Nat.{suc, _-_}
+use Prim.Native.Nat.{suc, _-_, _≤_}
 use native.Mathlib.Omega.{arith}
 use lib.ListN.{length}
+use Rattle.limits.specs.Limits.{mostTicks}
 use Rattle.runs.proofs.Edges.{edge-past, runs-some}
 use Rattle.counts.proofs.Along.{Passed, passed-none, passed-out, passed-order, passed-in, passed-both}
 use Rattle.counts.proofs.below.Statement.{statement}
@@ -30,11 +31,14 @@ returns c =
 end-requires-2 : tie.Need-end-requires-2 Inv-loop μ-loop
 end-requires-2 c κs = tt
 
+-- No more ticks are passed than a wheel has.
+few : (c : tie.At-loop Inv-loop μ-loop) → (c .loop .passed ≤ mostTicks) × (c .before .before .args .w ≤ mostTicks)
+few c =
+    let start = c .before .before in
+    omega (arith, c .loop .inv, runs-some _ _ (start .pre .0))
+
 add-result : tie.Need-add-result Inv-loop μ-loop
-add-result c =
-    let loop = c .before .before .before .before .before in
-    let start = loop .before .before in
-    omega (arith, loop .loop .inv, runs-some _ _ (start .pre .0))
+add-result c = let loop = c .before .before .before .before .before in omega (arith, few loop)
 
 returns-2 : tie.Need-returns-2 Inv-loop μ-loop
 returns-2 c =
@@ -50,10 +54,7 @@ sub-passed c =
     passed-order _ _ _ _ _ (loop .before .before .pre .0) (loop .loop .inv) _ _ (first .end .ensures) (c .before .end2 .ensures)
 
 add-passed : tie.Need-add-passed Inv-loop μ-loop
-add-passed c =
-    let loop = c .before .before .before .before .before in
-    let start = loop .before .before in
-    omega (arith, loop .loop .inv, runs-some _ _ (start .pre .0))
+add-passed c = let loop = c .before .before .before .before .before in omega (arith, few loop)
 
 loop-again : tie.Need-loop-again Inv-loop μ-loop
 loop-again c =

@@ -26,7 +26,9 @@ sub-result-2 c =
     below-rises _ _ _ _ _ _ (first .before .before .pre .0) (omega arith) (first .below .ensures) (c .below3 .ensures)
 
 add-result : tie.Need-add-result
-add-result c = omega (arith, runs-some _ _ (c .before .before .before .before .before .pre .0))
+add-result c =
+    let start = c .before .before .before .before .before in
+    omega (arith, runs-some _ _ (start .pre .0))
 
 returns-2 : tie.Need-returns-2
 returns-2 c =

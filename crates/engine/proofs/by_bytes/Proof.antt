@@ -13,7 +13,7 @@ returns : tie.Need-returns
 returns c =
     let branch = c .before in
     let pre = branch .before .before .before .before .pre in
-    crest-one (branch .if1 .taken) (pre .0 .some) (c .of-bytes .ensures)
+    crest-one _ _ (branch .if1 .taken) (pre .0 .some) (c .of-bytes .ensures)
 
 slice-aggregate-bytes : tie.Need-slice-aggregate-bytes
 slice-aggregate-bytes c = sym (length-take-le _ _ (omega (arith, c)))
@@ -47,7 +47,7 @@ returns-2 : tie.Need-returns-2
 returns-2 c =
     let counted = c .before .before .before .before .before .before in
     let counts = counted .bytes .ensures in
-    crest-of counts (take-at _ _ _ (counts .as-long)) (c .of-bytes2 .ensures)
+    crest-of _ counts (take-at _ _ _ (counts .as-long)) (c .of-bytes2 .ensures)
 
 pub by-bytes-spec : {M : Type 1} → statement M
 by-bytes-spec =

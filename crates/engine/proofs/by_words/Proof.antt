@@ -47,7 +47,7 @@ returns : tie.Need-returns
 returns c =
     let counted = c .before .before .before .before .before .before .before .before .before .before in
     let counts = counted .words .ensures in
-    crest-of counts (take-at _ _ _ (counts .as-long)) (c .of-words .ensures)
+    crest-of _ counts (take-at _ _ _ (counts .as-long)) (c .of-words .ensures)
 
 pub by-words-spec : {M : Type 1} → statement M
 by-words-spec =

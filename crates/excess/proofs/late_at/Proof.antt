@@ -33,7 +33,8 @@ returns-2 c =
 loop-again : tie.Need-loop-again Inv-loop μ-loop
 loop-again c =
     let next = c .before in
-    passing-next _ _ _ _ (next .before .before .before .before .loop .inv) (omega (arith, next .end2 .ensures))
+    let looped = next .before .before .before .before in
+    passing-next _ _ _ _ (looped .loop .inv) (omega (arith, next .end2 .ensures))
 
 returns-3 : tie.Need-returns-3 Inv-loop μ-loop
 returns-3 c =

@@ -17,7 +17,9 @@ affords-requires c κs =
     (given .0 .1, runs-some _ _ (given .0 .0) .1, given .1 .2)
 
 rem-walk : tie.Need-rem-walk
-rem-walk c = omega (arith, runs-some _ _ (c .before .before .before .before .before .pre .0 .0) .0)
+rem-walk c =
+    let given = c .before .before .before .before .before .pre in
+    omega (arith, runs-some _ _ (given .0 .0) .0)
 
 walk-requires : tie.Need-walk-requires
 walk-requires c κs =

@@ -1,27 +1,18 @@
 -- `judge::supply` meets its contract: what the gate lets in is asked, what it shuts out gives nothing (proofs/Gates.antt).
 -- Assumes nothing.
-use mathlib.Core.Path.{sym, _∙_}
 use borrow.Author.Needs.{needs}
-use Rattle.judge.proofs.Gates.{enter-number, enter-good, enter-inside, enter-supply, shut-number, shut-supply}
+use Rattle.judge.proofs.Gates.{enter-asked, enter-supply, shut-supply}
 use Rattle.judge.proofs.supply.Statement.{statement}
 use Rattle.judge.proofs.supply.Tie as tie
 
-supply-requires : tie.Need-supply-requires
-supply-requires c κs =
-    let entered = sym (c .before .before .before .enter .ensures) ∙ c .before .job .given .1 in
-    (enter-good _ _ _ _ entered, enter-inside _ _ _ _ entered)
-
-returns : tie.Need-returns
-returns c =
-    let shut = sym (c .before .before .before .enter .ensures) ∙ c .before .n .given .1 in
-    (shut-number _ _ _ _ shut, shut-supply _ _ _ _ shut)
-
 returns-2 : tie.Need-returns-2
 returns-2 c =
-    let entered = sym (c .before .before .before .before .enter .ensures) ∙ c .before .before .job .given .1 in
-    (enter-number _ _ _ _ entered, enter-supply _ _ _ _ entered _ (c .supply .ensures .0))
+    let arm = c .before .before in
+    enter-supply _ _ _ (arm .before .before .enter .ensures) (arm .job .given .1) _ (c .supply .ensures .0)
 
 pub supply-spec : {M : Type 1} → statement M
 supply-spec =
     tie.close
-    (tie.spec (λ c κs. search needs) (λ c. search needs) (λ c. search needs) supply-requires (λ c. search needs) returns returns-2)
+    (tie.spec (λ c κs. search needs) (λ c. search needs) (λ c. search needs)
+    (λ c κs. enter-asked _ _ _ (c .before .before .before .enter .ensures) (c .before .job .given .1)) (λ c. search needs)
+    (λ c. shut-supply _ _ _ (c .before .before .before .enter .ensures) (c .before .n .given .1)) returns-2)

@@ -7,7 +7,10 @@ use Rattle.judge.proofs.write.Statement.{statement}
 use Rattle.judge.proofs.write.Tie as tie
 
 returns : tie.Need-returns
-returns c = c .before .before .put .ensures ∙ ap (λ x. over x (now (c .before .before .before .before .before .before .before .args .reply))) (c .before .before .before .before .before .bytes .ensures)
+returns c =
+    let put = c .before .before in
+    let made = put .before .before .before in
+    put .put .ensures ∙ ap (λ x. over x (now (made .before .before .args .reply))) (made .bytes .ensures)
 
 pub write-spec : {M : Type 1} → statement M
 write-spec =

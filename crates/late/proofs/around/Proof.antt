@@ -26,7 +26,8 @@ sweep-requires c κs = outset-first _ (ground (c .before))
 
 slice-aggregate-sweep : tie.Need-slice-aggregate-sweep
 slice-aggregate-sweep c =
-    let g = ground (c .before .before .before .before .before) in
+    let supplied = c .before .before .before .before .before in
+    let g = ground supplied in
     sym (length-take-le _ _ (within (g .far) (g .bounds .below)))
 
 sweep-requires-2 : tie.Need-sweep-requires-2

@@ -19,10 +19,14 @@ abbrev μ-loop : tie.MeasureT-loop
 loop-holds : tie.Need-loop-holds Inv-loop μ-loop
 loop-holds c = omega (arith, edge-first (c .before .args .runs .now) (c .before .args .w))
 
-within : (c : tie.Then1 Inv-loop μ-loop) → c .before .before .loop .i < length (c .before .before .before .before .args .runs .now)
+within :
+    (c : tie.Then1 Inv-loop μ-loop)
+    → let looped = c .before .before in
+    looped .loop .i < length (looped .before .before .args .runs .now)
 within c =
-    let start = c .before .before .before .before .args in
-    cursor-inside (start .runs .now) (start .w) (suc (c .before .before .loop .i)) _ (le-refl _) (omega arith)
+    let looped = c .before .before in
+    let given = looped .before .before .args in
+    cursor-inside (given .runs .now) (given .w) (suc (looped .loop .i)) _ (le-refl _) (omega arith)
 
 add-i : tie.Need-add-i Inv-loop μ-loop
 add-i c = omega (arith, within c)

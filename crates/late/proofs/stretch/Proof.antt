@@ -18,7 +18,10 @@ split-requires c κs =
     (piece-one (c .before .crossing .ensures), pre .2, pre .3)
 
 returns-2 : tie.Need-returns-2
-returns-2 c = stretch-split (c .before .before .before .before .crossing .ensures) (c .before .before .split .ensures)
+returns-2 c =
+    let split = c .before .before in
+    let crossed = split .before .before in
+    stretch-split (crossed .crossing .ensures) (split .split .ensures)
 
 pub stretch-spec : {M : Type 1} → statement M
 stretch-spec =

@@ -61,23 +61,25 @@ turned c = c .before .before .before .before .before .before .before .before .be
 -- From the head of the loop to its end, where the far cursor has come to run j.
 step :
     (c : tie.Joined1 Inv-loop μ-loop) (j : ℕ)
-    → let least = c .before .before .before .before .before .before .before in
+    → let drawn = c .before .before .before .before .before in
+    let least = drawn .before .before in
     let at = least .before .before .before .before in
     let m = least .least .result in
     Passed (at .loop .j) (at .loop .b + m) (least .before .end2 .result) j
     → Step (along at) (least .before .before .end .result) (least .before .end2 .result) m (now at) (at .loop .out)
     (come (at .loop .a + m) (at .loop .b + m) (c .if1 .i) j (c .before .before .slid .result) (c .before .least2 .result)
-    (c .before .before .before .before .before .stretch .result))
-    (c .before .before .before .before .before .stretch .last .0)
+    (drawn .stretch .result))
+    (drawn .stretch .last .0)
 step c j passed =
-    let least = c .before .before .before .before .before .before .before in
+    let drawn = c .before .before .before .before .before in
+    let least = drawn .before .before in
     record {
       near = least .before .before .end .ensures;
       far = least .before .end2 .ensures;
       first = least .least .ensures;
       on = refl;
       over = refl;
-      drawn = c .before .before .before .before .before .stretch .ensures;
+      drawn = drawn .stretch .ensures;
       slides = c .before .before .slid .ensures;
       lower = c .before .least2 .ensures;
       ours = ⊎-elim (λ h. inl (h .0 .taken, h .1)) (λ h. inr (h .0 .left, h .1)) (c .if1 .came);
@@ -99,22 +101,23 @@ stretch-requires c κs =
 
 slid-requires : tie.Need-slid-requires Inv-loop μ-loop
 slid-requires c κs =
-    let at = c .before .before .before .before .before .before .before .before in
+    let least = c .before .before .before .before in
+    let at = least .before .before .before .before in
     let pre = start at .pre in
-    let r = ready (c .before .before .before .before) in
+    let r = ready least in
     (r .slope, omega (arith, r .on, pre .bounds .most))
 
 add-a : tie.Need-add-a Inv-loop μ-loop
-add-a c = omega (arith, ready (c .before .before .before .before .before .before) .on)
+add-a c = let least = c .before .before .before .before .before .before in omega (arith, ready least .on)
 
 add-b : tie.Need-add-b Inv-loop μ-loop
-add-b c = omega (arith, ready (c .before .before .before .before .before .before) .over)
+add-b c = let least = c .before .before .before .before .before .before in omega (arith, ready least .over)
 
 add-i : tie.Need-add-i Inv-loop μ-loop
-add-i c = omega (arith, ours (c .before .before .before .before .before .before .before .before .before .before))
+add-i c = let turn = c .before .before .before .before .before .before .before .before .before .before in omega (arith, ours turn)
 
 add-j : tie.Need-add-j Inv-loop μ-loop
-add-j c = omega (arith, theirs (c .before .before .before .before .before .before .before .before .before .before .before))
+add-j c = let turn = turned (c .before) in omega (arith, theirs turn)
 
 loop-less : tie.Need-loop-less Inv-loop μ-loop
 loop-less c =
@@ -136,9 +139,6 @@ loop-again-2 c =
     let turn = turned (c .before) in
     sweeping-next (turn .before .loop .inv) (start (turn .before) .pre) (turn .loop-test .taken) (step (c .before) _ (inr (c .if2 .left, refl)))
 
-same-length : tie.Need-same-length Inv-loop μ-loop
-same-length c = c .before .loop .inv .long
-
 returns : tie.Need-returns Inv-loop μ-loop
 returns c = sweeping-end (c .before .loop .inv) (c .loop-test .left)
 
@@ -146,5 +146,5 @@ pub sweep-spec : {M : Type 1} → statement M
 sweep-spec =
     tie.close
     (tie.spec Inv-loop μ-loop loop-holds (λ c κs. search needs) (λ c κs. search needs) sub-least sub-least-2
-    (λ c κs. search needs) stretch-requires slid-requires (λ c κs. search needs) add-a add-b add-i add-j loop-less loop-again loop-less-2 loop-again-2
-    same-length returns)
+    (λ c κs. search needs) stretch-requires slid-requires (λ c κs. search needs) add-a add-b add-i add-j loop-less loop-again
+    loop-less-2 loop-again-2 (λ c. c .before .loop .inv .long) returns)

@@ -1,25 +1,25 @@
 -- `lines::four` meets its contract: bytes bound the number, and so its digits. Assumes nothing.
+use Prim.Native.Nat.{_<_}
 use native.Mathlib.Omega.{arith}
-use Rattle.lines.specs.Lines.{longestFour}
+use lib.ListN.{length}
+use Rattle.lines.specs.Lines.{longestFour, decimal}
 use Rattle.lines.proofs.Decimals.{four-digits, same-digits, put-field}
 use borrow.Author.Needs.{needs}
 use Rattle.lines.proofs.four.Statement.{statement}
 use Rattle.lines.proofs.four.Tie as tie
 
-stopped-requires : tie.Need-stopped-requires
-stopped-requires c κs =
-    let start = c .before .before .before .before in
-    let known = c .before .before .before in
-    let few = four-digits (start .args .answer .now) (start .args .i) (known .shared-slice-known .given) in
-    omega (arith, same-digits longestFour (c .before .four .ensures) few)
+few : (c : tie.After-four) → length (decimal (c .four .result)) < longestFour
+few c =
+    let known = c .before .before in
+    let args = known .before .args in
+    same-digits longestFour (c .four .ensures) (four-digits (args .answer .now) (args .i) (known .shared-slice-known .given))
 
 returns : tie.Need-returns
 returns c =
-    let start = c .before .before .before .before .before .before .before in
-    let known = c .before .before .before .before .before .before in
-    let few = four-digits (start .args .answer .now) (start .args .i) (known .shared-slice-known .given) in
-    put-field longestFour _ (c .before .before .before .before .four .ensures) few (c .before .before .stopped .ensures)
+    let put = c .before .before in
+    let read = put .before .before in
+    put-field longestFour _ (read .four .ensures) (few read) (put .stopped .ensures)
 
 pub four-spec : {M : Type 1} → statement M
 four-spec =
-    tie.close (tie.spec (λ c κs. search needs) stopped-requires (λ c. search needs) returns)
+    tie.close (tie.spec (λ c κs. search needs) (λ c κs. omega (arith, few (c .before))) (λ c. search needs) returns)

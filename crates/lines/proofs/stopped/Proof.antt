@@ -6,7 +6,10 @@ use Rattle.lines.proofs.stopped.Statement.{statement}
 use Rattle.lines.proofs.stopped.Tie as tie
 
 returns : tie.Need-returns
-returns c = put-then (omega arith) (c .before .before .before .before .before .before .number .ensures) (c .before .before .byte .ensures)
+returns c =
+    let behind = c .before .before in
+    let digits = behind .before .before .before .before in
+    put-then (omega arith) (digits .number .ensures) (behind .byte .ensures)
 
 pub stopped-spec : {M : Type 1} → statement M
 stopped-spec =

@@ -55,34 +55,34 @@ returns c =
     let so-far = c .before .before .loop .inv in
     count-end (so-far .sized) (so-far .counting) (omega arith)
 
+-- From the first strip behind the loop back to its head.
+abbrev looped : (c : tie.After-bit5 Inv-loop μ-loop) → tie.At-loop Inv-loop μ-loop
+looped c = c .before .before .before .before
+
 returns-2 : tie.Need-returns-2 Inv-loop μ-loop
 returns-2 c =
     let first = c .before in
-    let left = first .before .before in
-    let so-far = left .before .before .loop .inv in
-    count-end (so-far .sized) (one-more so-far (left .if1 .left) (first .bit5 .ensures .0)) (omega arith)
+    let so-far = looped first .loop .inv in
+    count-end (so-far .sized) (one-more so-far (first .before .before .if1 .left) (first .bit5 .ensures .0)) (omega arith)
 
 returns-3 : tie.Need-returns-3 Inv-loop μ-loop
 returns-3 c =
     let second = c .before in
     let more = second .before .before in
     let first = more .before in
-    let left = first .before .before in
-    let so-far = left .before .before .loop .inv in
+    let so-far = looped first .loop .inv in
     count-end (so-far .sized)
-    (two-more so-far (left .if1 .left) (more .if2 .left) (first .bit5 .ensures .0) (second .bit6 .ensures .0)) (omega arith)
+    (two-more so-far (first .before .before .if1 .left) (more .if2 .left) (first .bit5 .ensures .0) (second .bit6 .ensures .0)) (omega arith)
 
 returns-4 : tie.Need-returns-4 Inv-loop μ-loop
 returns-4 c =
     let most = c .before .before in
-    let second = most .before in
-    let more = second .before .before in
+    let more = most .before .before .before in
     let first = more .before in
-    let left = first .before .before in
-    let so-far = left .before .before .loop .inv in
+    let so-far = looped first .loop .inv in
     count-end (so-far .sized)
-    (three-more so-far (left .if1 .left) (more .if2 .left) (most .if3 .left) (first .bit5 .ensures .0) (second .bit6 .ensures .0)
-    (c .bit7 .ensures .0)) (omega arith)
+    (three-more so-far (first .before .before .if1 .left) (more .if2 .left) (most .if3 .left) (first .bit5 .ensures .0)
+    (most .before .bit6 .ensures .0) (c .bit7 .ensures .0)) (omega arith)
 
 pub along-spec : {M : Type 1} → statement M
 along-spec =

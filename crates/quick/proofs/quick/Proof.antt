@@ -1,5 +1,6 @@
 -- `quick::quick` meets its contract: one law for each way out (proofs/Replies.antt). Assumes nothing.
-use mathlib.Core.Path.{sym, _∙_}
+use mathlib.Core.Path.{_≡_, sym, _∙_}
+use Rattle.records.specs.Refusals.{sizes}
 use Rattle.records.proofs.Parts.{sizes-long}
 use Rattle.records.proofs.Accepts.{good-accepted}
 use Rattle.quick.proofs.Replies.{quick-sizes, quick-refused, quick-answered}
@@ -20,22 +21,26 @@ firm-requires c κs =
     let arm = c .before in
     good-accepted _ _ _ (sym (arm .before .before .check .ensures) ∙ arm .job .given .1)
 
+good :
+    (c : tie.After-read)
+    → let given = c .before .before .before .before .before .args in
+    sizes (given .task .now) (given .slots .now) ≡ 0
+good c = sym (c .before .before .sizes .ensures) ∙ c .before .if1 .left
+
 returns-2 : tie.Need-returns-2
 returns-2 c =
     let arm = c .before .before in
     let check = arm .before .before in
     let read = check .before in
-    let good = sym (read .before .before .sizes .ensures) ∙ read .before .if1 .left in
     rw (c .refused2 .ensures .0, c .refused2 .ensures .1)
-    (quick-refused _ _ good _ (read .read .ensures) _ (sym (check .check .ensures) ∙ arm .bad .given .1))
+    (quick-refused _ _ (good read) _ (read .read .ensures) _ (sym (check .check .ensures) ∙ arm .bad .given .1))
 
 returns-3 : tie.Need-returns-3
 returns-3 c =
     let arm = c .before .before in
     let check = arm .before .before in
     let read = check .before in
-    let good = sym (read .before .before .sizes .ensures) ∙ read .before .if1 .left in
-    quick-answered _ _ good _ (read .read .ensures) _ _ (sym (check .check .ensures) ∙ arm .job .given .1) (c .firm .ensures)
+    quick-answered _ _ (good read) _ (read .read .ensures) _ _ (sym (check .check .ensures) ∙ arm .job .given .1) (c .firm .ensures)
 
 pub quick-spec : {M : Type 1} → statement M
 quick-spec =

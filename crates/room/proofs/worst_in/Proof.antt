@@ -9,7 +9,9 @@ use Rattle.room.proofs.worst_in.Statement.{statement}
 use Rattle.room.proofs.worst_in.Tie as tie
 
 slice-aggregate-part : tie.Need-slice-aggregate-part
-slice-aggregate-part c = let start = c .before .before .before .before .before .before .before .before in sym (length-take-le _ _ (start .pre .1 .map))
+slice-aggregate-part c =
+    let start = c .before .before .before .before .before .before .before .before in
+    sym (length-take-le _ _ (start .pre .1 .map))
 
 ridge-in-requires : tie.Need-ridge-in-requires
 ridge-in-requires c κs =

@@ -6,10 +6,14 @@ use Rattle.sheets.proofs.read.Statement.{statement}
 use Rattle.sheets.proofs.read.Tie as tie
 
 returns : tie.Need-returns
-returns c = counts _ (c .before .before .before .before .args .buf .now) (le-refl _)
+returns c =
+    let start = c .before .before .before .before in
+    counts _ (start .args .buf .now) (le-refl _)
 
 returns-2 : tie.Need-returns-2
-returns-2 c = counts _ (c .before .before .before .before .before .before .before .read-full .last .1 .0) (le-refl _)
+returns-2 c =
+    let got = c .before .before .before .before .before .before .before in
+    counts _ (got .read-full .last .1 .0) (le-refl _)
 
 pub read-spec : {M : Type 1} → statement M
 read-spec =

@@ -1,7 +1,7 @@
 -- `ticks::grid` meets its contract. The loop's invariant: the slots before slot i are laid out, `seen` of them are granted, and slot i is met at
 -- `met`. The measure is what is left of the slots. The laws are in proofs/Marks.antt and proofs/Laying.antt. Assumes nothing.
 use mathlib.Core.Path.{sym, _∙_}
-use Prim.Native.Nat.{_-_}
+use Prim.Native.Nat.{_-_, _≤_}
 use native.Mathlib.Omega.{arith}
 use lib.ListN.{length}
 use Rattle.rules.proofs.Sums.{number-le}
@@ -46,19 +46,17 @@ granting c =
       whole = c .row .ensures;
     }
 
+-- No more slots are granted than are passed.
+few : (c : tie.At-loop Inv-loop μ-loop) → c .loop .seen ≤ c .loop .i
+few c =
+    let start = c .before .before .before .before in
+    omega (arith, c .loop .inv .few, number-le (freeOf (start .args .marks .now)) (c .loop .i))
+
 add-row-2 : tie.Need-add-row-2 Inv-loop μ-loop
-add-row-2 c =
-    let test = c .before .before .before in
-    let inv = test .before .loop .inv in
-    let marks = test .before .before .before .before .before .args .marks .now in
-    omega (arith, inv .few, number-le (freeOf marks) (test .before .loop .i))
+add-row-2 c = let looped = c .before .before .before .before in omega (arith, few looped)
 
 row-requires : tie.Need-row-requires Inv-loop μ-loop
-row-requires c κs =
-    let test = c .before .before .before in
-    let inv = test .before .loop .inv in
-    let marks = test .before .before .before .before .before .args .marks .now in
-    omega (arith, inv .few, number-le (freeOf marks) (test .before .loop .i))
+row-requires c κs = let looped = c .before .before .before .before in omega (arith, few looped)
 
 mul-end : tie.Need-mul-end Inv-loop μ-loop
 mul-end c = record { fits = omega (arith, slots-inside _ _ _ _ _ _ _ _ _ _ _ _ (granting (c .before)) .1) }
@@ -72,7 +70,8 @@ opens-requires c κs = slots-inside _ _ _ _ _ _ _ _ _ _ _ _ (granting (c .before
 
 slot-requires : tie.Need-slot-requires Inv-loop μ-loop
 slot-requires c κs =
-    let known = granting (c .before .before .before .before) in
+    let rowed = c .before .before .before .before in
+    let known = granting rowed in
     let order = grid-order _ _ _ _ _ _ _ _ _ _ _ _ known _ (c .opens .ensures) in
     (grid-more _ _ _ _ _ _ _ _ _ _ _ _ known, order .0, order .1, order .2)
 
@@ -86,7 +85,7 @@ add-seen : tie.Need-add-seen Inv-loop μ-loop
 add-seen c =
     let known = granting (drawn c) in
     let inside = row-inside _ _ _ _ _ _ _ _ _ _ _ _ known in
-    omega (arith, inside .0, inside .1, known .inv .few, number-le (freeOf (start (drawn c) .args .marks .now)) (at-loop (drawn c) .loop .i))
+    omega (arith, inside .0, inside .1, few (at-loop (drawn c)))
 
 past-requires : tie.Need-past-requires Inv-loop μ-loop
 past-requires c κs = row-inside _ _ _ _ _ _ _ _ _ _ _ _ (granting (drawn c)) .1
@@ -118,7 +117,8 @@ span-requires c κs =
 same-length : tie.Need-same-length Inv-loop μ-loop
 same-length c =
     let last = c .before .before in
-    last .span .ensures .long ∙ last .before .before .before .before .loop .inv .laying .come .long
+    let looped = last .before .before .before .before in
+    last .span .ensures .long ∙ looped .loop .inv .laying .come .long
 
 returns : tie.Need-returns Inv-loop μ-loop
 returns c =

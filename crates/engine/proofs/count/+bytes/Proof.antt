@@ -83,21 +83,6 @@ module _ (t : ℕ) where
 pub +bytes-spec : {M : Type 1} → statement M
 +bytes-spec =
     close μ λ t.
-    lts.spec
-    (claims t)
-    (asked t)
-    bytes.Post
-    (turned-requires t)
-    (λ c. omega (arith, c))
-    (returns t)
-    (λ c. omega arith)
-    (bytes-requires t)
-    (turned-requires-2 t)
-    (λ c. omega (arith, c))
-    (λ c. omega (arith, c))
-    (returns-2 t)
-    (bytes-requires-2 t)
-    (turned-requires-3 t)
-    (λ c. omega (arith, c))
-    (λ c. omega (arith, c))
-    (returns-3 t)
+    lts.spec (claims t) (asked t) bytes.Post (turned-requires t) (λ c. omega (arith, c)) (returns t) (λ c. omega arith)
+    (bytes-requires t) (turned-requires-2 t) (λ c. omega (arith, c)) (λ c. omega (arith, c)) (returns-2 t) (bytes-requires-2 t)
+    (turned-requires-3 t) (λ c. omega (arith, c)) (λ c. omega (arith, c)) (returns-3 t)

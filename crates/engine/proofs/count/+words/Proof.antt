@@ -105,28 +105,8 @@ module _ (t : ℕ) where
 pub +words-spec : {M : Type 1} → statement M
 +words-spec =
     close μ λ t.
-    lts.spec
-    (claims t)
-    (asked t)
-    words.Post
-    (λ c. omega arith)
-    (words-requires t)
-    (turned-bits-requires t)
-    (λ c. omega (arith, c))
-    (λ c. omega (arith, c))
-    (λ c. omega (arith, c))
-    (λ c. omega (arith, c))
-    (returns t)
-    (bytes-requires t)
-    (turned-wide-requires t)
-    (λ c. omega (arith, c))
-    (λ c. omega (arith, c))
-    (λ c. omega (arith, c))
-    (returns-2 t)
-    (words-requires-2 t)
-    (turned-words-requires t)
-    (λ c. omega (arith, c))
-    (λ c. omega (arith, c))
-    (λ c. omega (arith, c))
-    (λ c. omega (arith, c))
-    (returns-3 t)
+    lts.spec (claims t) (asked t) words.Post (λ c. omega arith) (words-requires t) (turned-bits-requires t)
+    (λ c. omega (arith, c)) (λ c. omega (arith, c)) (λ c. omega (arith, c)) (λ c. omega (arith, c)) (returns t)
+    (bytes-requires t) (turned-wide-requires t) (λ c. omega (arith, c)) (λ c. omega (arith, c)) (λ c. omega (arith, c))
+    (returns-2 t) (words-requires-2 t) (turned-words-requires t) (λ c. omega (arith, c)) (λ c. omega (arith, c))
+    (λ c. omega (arith, c)) (λ c. omega (arith, c)) (returns-3 t)

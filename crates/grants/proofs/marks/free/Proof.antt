@@ -19,7 +19,10 @@ loop-holds : tie.Need-loop-holds Inv-loop μ-loop
 loop-holds c = numbered-none _
 
 add-n : tie.Need-add-n Inv-loop μ-loop
-add-n c = omega (arith, c .before .before .before .loop .inv .few, c .free .ensures, bit-le (eqb (getD (c .before .before .before .before .before .args .marks .now) (c .before .before .before .loop .i) 0) 1))
+add-n c =
+    let looped = c .before .before .before in
+    let mark = getD (looped .before .before .args .marks .now) (looped .loop .i) 0 in
+    omega (arith, looped .loop .inv .few, c .free .ensures, bit-le (eqb mark 1))
 
 loop-again : tie.Need-loop-again Inv-loop μ-loop
 loop-again c = numbered-more _ _ _ _ (c .before .before .before .loop .inv) (omega arith) (c .free .ensures)

@@ -20,13 +20,20 @@ loop-holds : tie.Need-loop-holds Inv-loop μ-loop
 loop-holds c = giving-none _ _
 
 add-seen : tie.Need-add-seen Inv-loop μ-loop
-add-seen c = omega (arith, c .before .before .before .before .loop .inv .numbered .few, c .before .before .before .before .loop .inv .numbered .upto, c .free .ensures, bit-le (eqb (getD (c .before .before .before .before .loop .marks) (c .before .before .before .before .loop .i) 0) 1))
+add-seen c =
+    let looped = c .before .before .before .before in
+    let so-far = looped .loop .inv .numbered in
+    omega (arith, so-far .few, so-far .upto, c .free .ensures, bit-le (eqb (getD (looped .loop .marks) (looped .loop .i) 0) 1))
 
 loop-less : tie.Need-loop-less Inv-loop μ-loop
-loop-less c = omega (arith, length-set (c .before .before .before .before .loop .marks) (c .before .before .before .before .loop .i) (c .before .after .result))
+loop-less c =
+    let looped = c .before .before .before .before in
+    omega (arith, length-set (looped .loop .marks) (looped .loop .i) (c .before .after .result))
 
 loop-again : tie.Need-loop-again Inv-loop μ-loop
-loop-again c = giving-more _ _ _ _ _ _ _ (c .before .before .before .before .loop .inv) (omega arith) (c .before .after .ensures) (c .free .ensures)
+loop-again c =
+    let looped = c .before .before .before .before in
+    giving-more _ _ _ _ _ _ _ (looped .loop .inv) (omega arith) (c .before .after .ensures) (c .free .ensures)
 
 same-length : tie.Need-same-length Inv-loop μ-loop
 same-length c = c .before .loop .inv .long

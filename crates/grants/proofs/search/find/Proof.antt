@@ -6,7 +6,9 @@ use Rattle.grants.proofs.search.find.Statement.{statement}
 use Rattle.grants.proofs.search.find.Tie as tie
 
 returns : tie.Need-returns
-returns c = (grant-none _ (c .before .before .before .before .args .grid) _ (c .if1 .taken), omega arith)
+returns c =
+    let start = c .before .before .before .before in
+    (grant-none _ (start .args .grid) _ (c .if1 .taken), omega arith)
 
 returns-2 : tie.Need-returns-2
 returns-2 c =
@@ -20,7 +22,7 @@ halve-requires c κs =
     let tried = firm .before .before .before in
     let counted = tried .before .before .before in
     let start = counted .before .before .before .before .before in (
-      (start .pre .0, start .pre .1, omega (arith, tried .firm .kept, start .pre .2), counted .free .ensures .0),
+      record { gridded = start .pre .0; within = start .pre .1; free = counted .free .ensures .0; room = omega (arith, tried .firm .kept, start .pre .2) },
       halve-start _ _ _ (start .pre .1 .asks) (omega arith) (start .pre .1 .painted) _ (counted .free .ensures .0) (omega arith)
           (tried .firm .ensures .yes-firm (firm .if3 .taken)),
     )
@@ -32,7 +34,8 @@ returns-4 : tie.Need-returns-4
 returns-4 c =
     let tried = c .before .before .before in
     let counted = tried .before .before .before in
-    nothing-firm _ (counted .before .before .before .before .before .args .grid) _ _ (counted .free .ensures .0) (tried .firm .ensures .not-firm (c .if3 .left))
+    let start = counted .before .before .before .before .before in
+    nothing-firm _ (start .args .grid) _ _ (counted .free .ensures .0) (tried .firm .ensures .not-firm (c .if3 .left))
 
 pub find-spec : {M : Type 1} → statement M
 find-spec =

@@ -18,19 +18,20 @@ abbrev μ-loop : tie.MeasureT-loop
 μ-loop marks grid task all runs₀ below₀ above₀ runs below above = above - below
 
 loop-holds : tie.Need-loop-holds Inv-loop μ-loop
-loop-holds c = let start = c .before .before in (start .pre .0 .2, start .pre .1)
+loop-holds c = let start = c .before .before in (start .pre .0 .room, start .pre .1)
 
 add-middle : tie.Need-add-middle Inv-loop μ-loop
 add-middle c =
     let loop = c .before in
     let start = loop .before .before .before in
-    omega (arith, loop .loop .inv .1 .order, halve-few _ _ _ _ _ (start .pre .0 .0) (loop .loop .inv .1))
+    omega (arith, loop .loop .inv .1 .order, halve-few _ _ _ _ _ (start .pre .0 .gridded) (loop .loop .inv .1))
 
 firm-requires : tie.Need-firm-requires Inv-loop μ-loop
 firm-requires c κs =
     let loop = c .before .before in
     let start = loop .before .before .before in
-    (start .pre .0 .0, start .pre .0 .1, loop .loop .inv .0, start .pre .0 .3)
+    let tries = start .pre .0 in
+    record { gridded = tries .gridded; within = tries .within; free = tries .free; room = loop .loop .inv .0 }
 
 loop-again : tie.Need-loop-again Inv-loop μ-loop
 loop-again c =
@@ -44,7 +45,7 @@ add-below : tie.Need-add-below Inv-loop μ-loop
 add-below c =
     let loop = c .before .before .before .before .before .before in
     let start = loop .before .before .before in
-    omega (arith, halve-few _ _ _ _ _ (start .pre .0 .0) (loop .loop .inv .1))
+    omega (arith, halve-few _ _ _ _ _ (start .pre .0 .gridded) (loop .loop .inv .1))
 
 loop-again-2 : tie.Need-loop-again-2 Inv-loop μ-loop
 loop-again-2 c =
@@ -55,7 +56,10 @@ loop-again-2 c =
     )
 
 same-length : tie.Need-same-length Inv-loop μ-loop
-same-length c = omega (arith, c .before .loop .inv .0, c .before .before .before .before .pre .0 .2)
+same-length c =
+    let loop = c .before in
+    let start = loop .before .before .before in
+    omega (arith, loop .loop .inv .0, start .pre .0 .room)
 
 returns : tie.Need-returns Inv-loop μ-loop
 returns c =

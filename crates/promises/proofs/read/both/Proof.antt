@@ -7,7 +7,8 @@ use Rattle.promises.proofs.read.both.Tie as tie
 returns : tie.Need-returns
 returns c =
     let judged = c .before .before .before in
-    quick-agrees _ _ _ _ _ _ (judged .before .before .before .before .before .pre) (judged .judge .ensures) (c .quick .ensures)
+    let start = judged .before .before .before .before .before in
+    quick-agrees _ _ _ _ _ _ (start .pre) (judged .judge .ensures) (c .quick .ensures)
 
 pub both-spec : {M : Type 1} → statement M
 both-spec =

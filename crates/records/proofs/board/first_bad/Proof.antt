@@ -27,8 +27,10 @@ slot-refusal-requires : tie.Need-slot-refusal-requires Inv-loop μ-loop
 slot-refusal-requires c κs = tt
 
 returns : tie.Need-returns Inv-loop μ-loop
-returns c = passed-bad _ _ _ _ _ _ (c .before .before .before .before .loop .inv .2) (omega arith)
-    (c .before .slot-refusal .ensures ∙ ap (slotRefusal _ _) (c .before .before .slot-at .ensures)) (c .if1 .taken)
+returns c =
+    let slot = c .before .before in
+    passed-bad _ _ _ _ _ _ (slot .before .before .loop .inv .2) (omega arith)
+    (c .before .slot-refusal .ensures ∙ ap (slotRefusal _ _) (slot .slot-at .ensures)) (c .if1 .taken)
 
 loop-again : tie.Need-loop-again Inv-loop μ-loop
 loop-again c =

@@ -37,7 +37,9 @@ returns-2 c =
 
 table-requires : tie.Need-table-requires
 unfolding range
-table-requires c κs = ltb-false _ _ (when-none 3 _ (zero-lt-suc 2) (near (c .before .before .before .before .before .before)))
+table-requires c κs =
+    let tested = c .before .before .before .before .before .before in
+    ltb-false _ _ (when-none 3 _ (zero-lt-suc 2) (near tested))
 
 returns-3 : tie.Need-returns-3
 returns-3 c =

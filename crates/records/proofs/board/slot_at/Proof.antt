@@ -7,12 +7,11 @@ use Rattle.records.proofs.board.slot_at.Tie as tie
 returns : tie.Need-returns
 unfolding slotAt
 returns c =
-    let owner = c .before in
-    let end = owner .before in
+    let end = c .before .before in
     λ i. record {
       start = end .before .four .ensures i;
       end = end .four2 .ensures i;
-      owner = owner .two .ensures i;
+      owner = c .before .two .ensures i;
       loss = c .two2 .ensures i;
     }
 

@@ -13,29 +13,34 @@ returns : tie.Need-returns
 returns c = tallied-none _ _ _ _ _ _ _ (c .before .before .before .late .ensures) (c .if1 .taken)
 
 slice-aggregate-draw : tie.Need-slice-aggregate-draw
-slice-aggregate-draw c = sym (length-take-le _ _ (c .before .before .before .before .late .ensures .room))
+slice-aggregate-draw c =
+    let lates = c .before .before .before .before in
+    sym (length-take-le _ _ (lates .late .ensures .room))
 
 draw-requires : tie.Need-draw-requires
 draw-requires c κs =
     let lates = c .before .before .before .before .before in
-    lates-runs (lates .before .before .before .before .before .pre .0) (lates .late .ensures) .0
+    let start = lates .before .before .before .before .before in
+    lates-runs (start .pre .0) (lates .late .ensures) .0
 
 tally-requires : tie.Need-tally-requires
 tally-requires c κs =
     let drawn = c .before .before .before in
     let lates = drawn .before .before .before .before .before .before in
-    let lent = lates .before .before .before .before .before .pre .0 in
+    let start = lates .before .before .before .before .before in
+    let lent = start .pre .0 in
     let drew = drawn .draw .ensures in (
       drawn-sized _ _ _ (lates-runs lent (lates .late .ensures) .0) (drew .0) (drew .1) _ _ (lent .within .period) (lent .within .strips),
-      omega (arith, drew .0, lent .long, lates .before .before .before .before .before .pre .1),
+      omega (arith, drew .0, lent .long, start .pre .1),
     )
 
 returns-2 : tie.Need-returns-2
 returns-2 c =
     let drawn = c .before .before .before .before in
     let lates = drawn .before .before .before .before .before .before in
-    tallied _ _ _ _ _ _ _ _ _ _ (lates .before .before .before .before .before .pre .0) (lates .late .ensures) (drawn .draw .ensures .0) (drawn .draw .ensures .1)
-    (c .tally .ensures .0)
+    let start = lates .before .before .before .before .before in
+    let drew = drawn .draw .ensures in
+    tallied _ _ _ _ _ _ _ _ _ _ (start .pre .0) (lates .late .ensures) (drew .0) (drew .1) (c .tally .ensures .0)
 
 pub count-spec : {M : Type 1} → statement M
 count-spec =

@@ -7,8 +7,9 @@ doubled-requires : tie.Need-doubled-requires
 doubled-requires c κs =
     let told = c .before in
     let outlined = told .before .before .before .before in
+    let start = outlined .before .before .before .before in
     let drawn = rw (told .enum-told .given .1) at (outlined .outline .ensures) in
-    (drawn .0, outlined .before .before .before .before .pre .1 .1)
+    (drawn .0, start .pre .1 .1)
 
 returns : tie.Need-returns
 returns c =

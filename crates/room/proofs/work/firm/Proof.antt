@@ -9,7 +9,9 @@ use Rattle.room.proofs.work.firm.Statement.{statement}
 use Rattle.room.proofs.work.firm.Tie as tie
 
 slice-aggregate-bears : tie.Need-slice-aggregate-bears
-slice-aggregate-bears c = sym (length-take-le _ _ (c .before .before .before .before .before .before .late .ensures .room))
+slice-aggregate-bears c =
+    let lates = c .before .before .before .before .before .before in
+    sym (length-take-le _ _ (lates .late .ensures .room))
 
 bears-requires : tie.Need-bears-requires
 bears-requires c κs =

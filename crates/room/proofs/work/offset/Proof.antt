@@ -13,12 +13,15 @@ returns c =
     rw none (found-none _ _ _ _ (rw none at (start .pre .1)))
 
 after-requires : tie.Need-after-requires
-after-requires c κs = let start = c .before .before .before .before .before in highest-inside _ _ _ _ _ _ _ (start .pre .0) (start .pre .1)
+after-requires c κs =
+    let start = c .before .before .before .before .before in
+    highest-inside _ _ _ _ _ _ _ (start .pre .0) (start .pre .1)
 
 returns-2 : tie.Need-returns-2
 returns-2 c =
     let later = c .before in
-    rw (c .after .ensures) (found-later _ _ _ _ _ (later .before .before .before .before .before .pre .1) (later .if2 .taken))
+    let start = later .before .before .before .before .before in
+    rw (c .after .ensures) (found-later _ _ _ _ _ (start .pre .1) (later .if2 .taken))
 
 count-requires : tie.Need-count-requires
 count-requires c κs =
@@ -28,13 +31,15 @@ count-requires c κs =
 returns-3 : tie.Need-returns-3
 returns-3 c =
     let counted = c .before .before .before .before .before in
-    found-start _ _ _ _ _ (counted .before .before .before .before .before .before .before .before .pre .1) (rw (c .if3 .taken) at (counted .count .ensures))
+    let start = counted .before .before .before .before .before .before .before .before in
+    found-start _ _ _ _ _ (start .pre .1) (rw (c .if3 .taken) at (counted .count .ensures))
 
 returns-4 : tie.Need-returns-4
 returns-4 c =
     let counted = c .before .before .before .before .before in
     let first = counted .before .before .before in
-    found-half _ _ _ _ _ _ (first .before .before .before .before .before .pre .1) (first .if2 .left) (counted .count .ensures) (c .if3 .left)
+    let start = first .before .before .before .before .before in
+    found-half _ _ _ _ _ _ (start .pre .1) (first .if2 .left) (counted .count .ensures) (c .if3 .left)
 
 pub offset-spec : {M : Type 1} → statement M
 offset-spec =

@@ -22,8 +22,9 @@ doubled-requires : tie.Need-doubled-requires
 doubled-requires c κs =
     let told = c .before in
     let outlined = told .before .before .before .before in
+    let start = outlined .before .before .before .before .before .before .before .before .before .before in
     let drawn = rw (told .enum-told .given .1) at (outlined .outline .ensures) in
-    (drawn .0, outlined .before .before .before .before .before .before .before .before .before .before .pre .within .some)
+    (drawn .0, start .pre .within .some)
 
 returns : tie.Need-returns
 returns c =

@@ -7,10 +7,12 @@ use Rattle.room.proofs.work.tell.Statement.{statement}
 use Rattle.room.proofs.work.tell.Tie as tie
 
 slice-aggregate-part : tie.Need-slice-aggregate-part
-slice-aggregate-part c = sym (length-take-le _ _ (c .before .before .before .before .pre .3))
+slice-aggregate-part c = let start = c .before .before .before .before in sym (length-take-le _ _ (start .pre .3))
 
 worst-requires : tie.Need-worst-requires
-worst-requires c κs = lent-part _ _ _ _ _ _ (c .before .before .before .before .before .before .before .pre)
+worst-requires c κs =
+    let start = c .before .before .before .before .before .before .before in
+    lent-part _ _ _ _ _ _ (start .pre)
 
 count-requires : tie.Need-count-requires
 count-requires c κs =
@@ -18,10 +20,14 @@ count-requires c κs =
     (lent-part _ _ _ _ _ _ (start .pre), rw (c .before .before .ask .given .1) at (start .pre .4))
 
 returns : tie.Need-returns
-returns c = rw (c .before .before .before .before .before .before .enum-told .given .1) (c .before .before .before .before .worst .ensures)
+returns c =
+    let found = c .before .before .before .before in
+    rw (found .before .before .enum-told .given .1) (found .worst .ensures)
 
 returns-2 : tie.Need-returns-2
-returns-2 c = rw (c .before .before .before .before .before .before .before .ask .given .1) (c .before .before .before .before .count .ensures)
+returns-2 c =
+    let counted = c .before .before .before .before in
+    rw (counted .before .before .before .ask .given .1) (counted .count .ensures)
 
 pub tell-spec : {M : Type 1} → statement M
 tell-spec =

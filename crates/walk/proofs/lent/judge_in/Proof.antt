@@ -13,7 +13,9 @@ abbrev start : (c : tie.After-read) → tie.Start
 start c = c .before .before .before .before .before .before .before .before .before .before .before
 
 read-requires : tie.Need-read-requires
-read-requires c κs = sizes-long _ _ (c .before .before .before .before .before .before .before .before .before .before .pre .0 .0)
+read-requires c κs =
+    let start = c .before .before .before .before .before .before .before .before .before .before in
+    sizes-long _ _ (start .pre .0 .0)
 
 worst-in-requires : tie.Need-worst-in-requires
 worst-in-requires c κs =

@@ -1,23 +1,17 @@
 -- `walk::lent::worst_in` meets its contract: the job's slots are laid out as runs, and what holds of every set of ticks that
 -- they lay out holds of the job's. Assumes nothing.
-use mathlib.Core.Path.{sym}
 use native.Mathlib.Omega.{arith}
-use lib.Seq.{length-take-le}
 use Rattle.room.specs.Room.{mostEdges}
-use Rattle.room.proofs.Handed.{handed, found}
+use Rattle.room.proofs.Handed.{cut, handed-task, found}
 use borrow.Author.Needs.{needs}
 use Rattle.walk.proofs.lent.worst_in.Statement.{statement}
 use Rattle.walk.proofs.lent.worst_in.Tie as tie
-
-slice-aggregate-worst-in : tie.Need-slice-aggregate-worst-in
-slice-aggregate-worst-in c = sym (length-take-le _ _ (c .before .before .before .lay .ensures .room))
 
 worst-in-requires : tie.Need-worst-in-requires
 worst-in-requires c κs =
     let laid = c .before .before .before .before .before .before .before .before .before in
     let start = laid .before .before .before .before .before .before .before .before .before .before .before in
-    let runs = handed {most = mostEdges} (laid .lay .ensures) (omega (arith, start .pre .0 .1)) in
-    ((runs .0, start .pre .0 .0 .within, runs .1), start .pre .1)
+    (handed-task {most = mostEdges} (laid .lay .ensures) (start .pre .0 .0 .within) (omega (arith, start .pre .0 .1)), start .pre .1)
 
 returns : tie.Need-returns
 returns c =
@@ -28,6 +22,6 @@ returns c =
 pub worst-in-spec : {M : Type 1} → statement M
 worst-in-spec =
     tie.close
-    (tie.spec (λ c κs. search needs) (λ c. search needs) slice-aggregate-worst-in worst-in-requires (λ c. search needs)
+    (tie.spec (λ c κs. search needs) (λ c. search needs) (λ c. cut (c .before .before .before .lay .ensures)) worst-in-requires (λ c. search needs)
     (λ c. search needs) (λ c. search needs) (λ c. search needs) (λ c. search needs) (λ c. search needs) (λ c. search needs)
     returns)

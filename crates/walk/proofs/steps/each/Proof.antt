@@ -4,7 +4,7 @@ use mathlib.Core.Path.{_∙_}
 use Prim.Native.Nat.{_-_, _≤_}
 use native.Mathlib.Omega.{arith}
 use borrow.Author.Needs.{needs}
-use Rattle.records.specs.Lookup.{whole}
+use Rattle.records.specs.Records.{whole}
 use Rattle.walk.specs.Walk.{Walked}
 use Rattle.walk.proofs.Walks.{Kept, kept-lends, walked-none, walked-more, walked-roomy, walked-all}
 use Rattle.walk.proofs.steps.each.Statement.{statement}

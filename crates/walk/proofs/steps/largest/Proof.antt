@@ -2,7 +2,7 @@
 -- records that are left. Assumes nothing.
 use Prim.Native.Nat.{_-_}
 use native.Mathlib.Omega.{arith}
-use Rattle.records.specs.Lookup.{whole}
+use Rattle.records.specs.Records.{whole}
 use Rattle.walk.proofs.Walks.{Seen, seen-none, seen-more, seen-all}
 use Rattle.walk.proofs.steps.largest.Statement.{statement}
 use Rattle.walk.proofs.steps.largest.Tie as tie

@@ -1,7 +1,7 @@
 -- `walk::steps::one` meets its contract: what was judged on its part of the reply was judged on its place (proofs/Walks.antt).
 -- Assumes nothing.
 use borrow.Author.Needs.{needs}
-use Rattle.records.proofs.Places.{cut-part}
+use Rattle.records.proofs.Parts.{cut-part}
 use Rattle.walk.proofs.Walks.{lends-one, ready, placed-one}
 use Rattle.walk.proofs.steps.one.Statement.{statement}
 use Rattle.walk.proofs.steps.one.Tie as tie
