@@ -111,9 +111,12 @@ sub-times q a b q+ =
     sym (sub-zero (q * (a - b))) ∙ sub_same (q * (a - b)) 0 (q * a) (q * b) (omega arith))
   where
     some : (q n : ℕ) → 0 < q → 0 < n → 0 < q * n
+    some zero n q+ n+ = elim q+ [ ]
+    some (suc q) zero q+ n+ = elim n+ [ ]
     some (suc q) (suc n) q+ n+ = omega arith
 
     less : (n : ℕ) → 0 < n → neg_ℤ (pos n) ≡ sub_ℕ 0 n
+    less zero n+ = elim n+ [ ]
     less (suc n) n+ = sym (sub_cases (λ x. x ≡ negsuc n) 0 (suc n) (λ l. ap negsuc (omega arith)) (λ l. absurd (no l)))
       where
         no : suc n ≤ 0 → ⊥
