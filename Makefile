@@ -30,12 +30,18 @@ endif
 endif
 
 # A program that this machine can start: the program itself, or a script that starts it in the emulator.
-start = $(if $(EMULATOR),@printf '#!/bin/sh\nexec $(EMULATOR) "$$0.x86-64" "$$@"\n' >$@ && chmod +x $@)
+start = $(if $(EMULATOR),@printf '#!/bin/sh\nexec $(EMULATOR) "$$0.x86-64" "$$@"\n' >$(1) && chmod +x $(1))
+
+# A program that rt made, for this machine to start: $(call take,its name,the file that starts it).
+define take
+cp crates/$(1)/out/$(1) $(2)$(if $(EMULATOR),.x86-64)
+$(call start,$(2))
+endef
 
 define link
 @mkdir -p $(@D)
 $(CC) $(LDFLAGS) $(1) $^ $(LDLIBS) -o $@$(if $(EMULATOR),.x86-64)
-$(start)
+$(call start,$@)
 endef
 
 # Baselines are measured at their best: clang -O3 where there is a clang. BENCH_ARCHIVE=file measures an archive that was made for this machine.
@@ -60,7 +66,7 @@ BENCH := bench report workload plan fp doubling remainder files
 PROGRAMS := build/second build/asked build/stack build/halfway build/records build/desk build/slider \
 	build/bench$(BENCH_KIND)
 
-.PHONY: help kit tools test lib install sheet host header-check host-test soak sanitize memcheck valgrind bench bench-instructions clean always
+.PHONY: help kit tools taken test lib install sheet host header-check host-test soak sanitize memcheck valgrind bench bench-instructions clean always
 
 help:
 	@echo 'make test                 prove, try the mistakes, run the host programs; last line: N passed, 0 failed'
@@ -88,9 +94,10 @@ tools:
 lib: $(ARCHIVE) build/include/fiddlequill.h
 
 $(ARCHIVE): $(RATTLE) | kit
-	rt staticlib fiddlequill
 	@mkdir -p build
-	cp target/staticlib/libfiddlequill.a $@
+	@echo 'proving and building the archive; build/lib.log says how far it is'
+	@cd crates/fiddlequill_c && rt lib >../../build/lib.log 2>&1 || { cat ../../build/lib.log >&2; exit 1; }
+	cp crates/fiddlequill_c/out/libfiddlequill_c.a $@
 
 build/include/fiddlequill.h: $(HEADER)
 	@mkdir -p build/include
@@ -117,12 +124,18 @@ sheet:
 	@$(MAKE) -s build/sheet build/records >&2
 	@host/sheet.sh build/sheet build/records "$$SHEET_SITE" build/sheet-site
 
-# A proved program, for this machine to start.
+# A proved program, for this machine to start. It is run once where it was built, on no files, and what it prints there goes into the log.
 build/sheet build/questions: build/%: $(RATTLE) | kit tools
 	@mkdir -p build
-	@rt check $* >build/$*.log 2>&1 || { cat build/$*.log >&2; exit 1; }
-	cp target/bin/$* $@$(if $(EMULATOR),.x86-64)
-	$(start)
+	@rm -f crates/$*/out/$*
+	@(cd crates/$* && rt run </dev/null >../../build/$*.log 2>&1) || test -x crates/$*/out/$* || { cat build/$*.log >&2; exit 1; }
+	$(call take,$*,$@)
+
+# What the gate's proving left: the same programs, which needn't be proved and built again.
+taken: | tools
+	@mkdir -p build
+	$(call take,sheet,build/sheet)
+	$(call take,questions,build/questions)
 
 # ---- the C programs
 
@@ -193,7 +206,7 @@ bench-instructions: build/bench$(BENCH_KIND)
 	bench/instructions.sh $<
 
 clean:
-	rm -rf build target
+	rm -rf build crates/*/out
 
 build/second: $(SECOND:%=build/host/%.o) $(ARCHIVE)
 	$(call link,)
