@@ -1,3 +1,5 @@
+#![tactic(auto)]
+
 // Numbers in bytes, lowest byte first, and bytes put over the start of a buffer.
 ghost use Rattle.std.specs.Prelude.{◌≡◌, ◌+◌, ◌≤◌, ◌<◌, length};
 ghost use Rattle.octets.specs.Octets.{le2, le4, twos, signed, over};
