@@ -1,6 +1,6 @@
 -- Texts put into a buffer one behind the other. Assumes nothing.
 use mathlib.Core.Path.{◌≡◌, refl, sym, ap, ◌∙◌}
-use mathlib.Core.Bool.{Bool, true, false, not}
+use mathlib.Core.Bool.{Bool, true, false}
 use mathlib.Core.List.{List, [], ◌∷◌, ◌++◌, append_assoc, append-nil}
 use Prim.Native.Nat.{ℕ, ◌+◌, ◌-◌, ◌≤◌, ◌<◌}
 use native.Mathlib.Nat.{add-zero}
@@ -9,21 +9,10 @@ use native.Mathlib.Omega.{arith}
 use lib.Dec.{leb}
 use lib.ListN.{length, take, drop, set, take-append-drop, length-append, length-drop}
 use lib.Seq.{set_split, drop-drop, take_at, drop_at, length-take-le, take_all, drop-length}
-use borrow.Author.Tests.{not-true, not-false, eq-eqb, ne_eqb, leb-true, leb-false, le-leb, lt-leb}
+use borrow.Author.Tests.{eq-eqb, ne_eqb}
 use Rattle.octets.specs.Octets.{over}
 use Rattle.records.specs.Records.{reply_bytes}
 use Rattle.lines.specs.Lines.{longest_line, line_of, placed, fitting, line_for, Put}
-
--- A sum that may not be formed is tested by the difference.
-pub fits_not : (n len at : ℕ) → len < n → false ≡ leb (at + n) len
-fits_not n len at l = sym (lt-leb (at + n) len (omega arith))
-
-pub fits-same : (n len at : ℕ) → n ≤ len → leb at (len - n) ≡ leb (at + n) len
-fits-same n len at l = go (leb (at + n) len) refl
-  where
-    go : (t : Bool) → leb (at + n) len ≡ t → leb at (len - n) ≡ t
-    go true e = let m = leb-true (at + n) len e in le-leb at (len - n) (omega arith)
-    go false e = let m = leb-false (at + n) len e in lt-leb at (len - n) (omega arith)
 
 pub put-none : (b : List ℕ) (at : ℕ) → Put [] b at at b
 unfolding placed over
@@ -74,18 +63,15 @@ put_then {a} {t} {b} {c} {d} {at} {m} {e} l p q =
           ∙ placed-more a t b at l;
     }
 
-pub room : (n len at : ℕ) (r : Bool) → r ≡ leb (at + n) len → not r ≡ false → at + n ≤ len
-room n len at r asked e = leb-true (at + n) len (sym asked ∙ not-false r e)
-
 -- Nothing is put where it doesn't fit. The answer of `fits` decides.
 module _ (n : ℕ) (t b : List ℕ) (at : ℕ) (r : Bool) (asked : r ≡ leb (at + n) (length b)) where
-  pub put-unfit : not r ≡ true → Put (fitting n t b at) b at at b
+  pub put-unfit : r ≡ false → Put (fitting n t b at) b at at b
   unfolding fitting
-  put-unfit e = rw (sym asked ∙ not-true r e) (put-none b at)
+  put-unfit e = rw (sym asked ∙ e) (put-none b at)
 
-  pub put_fit : {d : List ℕ} {e : ℕ} → not r ≡ false → Put t b at e d → Put (fitting n t b at) b at e d
+  pub put_fit : {d : List ℕ} {e : ℕ} → r ≡ true → Put t b at e d → Put (fitting n t b at) b at e d
   unfolding fitting
-  put_fit f p = rw (sym asked ∙ not-false r f) p
+  put_fit f p = rw (sym asked ∙ f) p
 
 -- The line of an answer record, or of what isn't one.
 pub line-short : (l b : List ℕ) (at : ℕ) → (length l ≡ reply_bytes → ⊥) → Put (line_for l b at) b at at b
@@ -97,9 +83,6 @@ pub line-whole :
     → Put (line_for l b at) b at e d
 unfolding line_for
 line-whole l b at s p = rw (eq-eqb (length l) reply_bytes s) p
-
-pub part_room : (n : ℕ) (b : List ℕ) (at : ℕ) → at + n ≤ length b → n ≤ length (take (length b - at) (drop at b))
-part_room n b at l = rw (take_all (length b - at) (drop at b) (omega (arith, length-drop at b))) (omega (arith, length-drop at b))
 
 -- A text put over a part that reaches to the end of the buffer.
 pub put-part :

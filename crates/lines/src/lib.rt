@@ -1,3 +1,5 @@
+#![tactic(auto)]
+
 // Lines of the printed sheet, put into a buffer at a place. Each function gives the place behind what it put.
 ghost use Rattle.std.specs.Prelude.{◌≡◌, [], ◌∷◌, ◌+◌, ◌≤◌, ◌<◌, leb, length};
 ghost use Rattle.octets.specs.Octets.{le2, le4};
