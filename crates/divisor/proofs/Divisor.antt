@@ -23,6 +23,9 @@ gcd-step {a} {b} {g} d =
       greatest = λ e p q. d.greatest e q ((dvd-mod_iff e q).1 p);
     }
 
+-- For the proof of `gcd`.
+pub ruleset steps = (gcd-zero, gcd-step)
+
 gcd-back : {a b g : ℕ} → Gcd a b g → Gcd b (a % b) g
 gcd-back {a} {b} {g} d =
     record {
