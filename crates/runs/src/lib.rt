@@ -1,3 +1,5 @@
+#![tactic(auto)]
+
 // Sets of ticks as runs: the waist of the house. Whatever says which ticks are usable ends here, and all that counts starts here.
 ghost use Rattle.std.specs.Prelude.{◌≡◌, suc, ◌≤◌, ◌<◌, length};
 ghost use Rattle.limits.specs.Limits.{most_ticks};
