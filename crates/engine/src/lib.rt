@@ -1,3 +1,5 @@
+#![tactic(auto)]
+
 // The worst of a map of drops by doubling: strips from every tick of the wheel are counted at once.
 mod count;
 mod crest;
