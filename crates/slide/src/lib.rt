@@ -1,3 +1,5 @@
+#![tactic(auto)]
+
 // The worst of a map of drops, by sliding back from each start of a late run: only from such places does a count rise.
 ghost use Rattle.std.specs.Prelude.{◌≡◌, ◌+◌, ◌*◌, ◌%◌, ◌≤◌, ◌<◌, max, length};
 ghost use Rattle.limits.specs.Limits.{most_ticks, most_strips};

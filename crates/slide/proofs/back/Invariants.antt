@@ -1,0 +1,11 @@
+-- The loop's invariant: the nth strip from p on arrives at the start, its count goes beside the start's, the n strips from q on are taken
+-- off, and the top is the rank of the best tick passed (`Back`). The measure is what is left of the strips.
+use Rattle.std.proofs.Common.{◌-◌}
+use Rattle.slide.proofs.Slides.{Back}
+use Rattle.slide.proofs.back.Given as goal
+
+abbrev pub invariant-loop-n : goal.invariant-loop-n
+invariant-loop-n l = Back l.map l.s l.k l.start l.top l.drops l.gone l.p l.q l.n
+
+abbrev pub decreases-loop-n : goal.decreases-loop-n
+decreases-loop-n l = l.k - l.n
