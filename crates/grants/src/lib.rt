@@ -1,3 +1,5 @@
+#![tactic(auto)]
+
 // Granting free slots of a wheel of equal slots: the first j in number order, with the smallest j that is firm.
 mod marks;
 mod search;
