@@ -1,3 +1,5 @@
+#![tactic(auto)]
+
 // A wheel drawn into bytes, a byte for each tick, and strips counted along it.
 ghost use Rattle.std.specs.Prelude.{◌≡◌, ◌+◌, ◌%◌, ◌≤◌, ◌<◌, length};
 ghost use Rattle.limits.specs.Limits.{most_ticks};
