@@ -1,3 +1,5 @@
+#![tactic(auto)]
+
 // Where strips are dropped, as runs, and the least margin: a walk along the straight pieces of supply.
 ghost use Rattle.std.specs.Prelude.{◌≡◌, true, ◌+◌, ◌*◌, ◌≤◌, ◌<◌, min, length};
 ghost use Rattle.limits.specs.Limits.{most_ticks, Within};
@@ -7,6 +9,7 @@ ghost use Rattle.late.specs.Late.{need_in, Steady, Slope, Piece, Split, Stretch,
 use limits::Task;
 
 // What is left of the need after the whole turns: 0 where they are enough, more than the rest window holds where nothing is.
+#[tactic(auto, unfolding(crate::specs::Late::need_in))]
 fn need(turned: usize, rest: usize, e: usize) -> usize
     requires { rest < most_ticks }
     ensures { result ≡ need_in turned rest e }
