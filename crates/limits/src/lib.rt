@@ -1,10 +1,12 @@
+#![tactic(auto)]
+
 // The bounds of wheel, task and grant, each a constant of what it limits, with constructors that refuse. A refusal is its number in docs/RULES.md.
 ghost use Rattle.std.specs.Prelude.{◌≡◌};
 ghost use Rattle.limits.specs.Refusal.{◌when◌, ◌otherwise◌};
 ghost use Rattle.limits.specs.Limits.{outside, id_refusal, wheel_refusal, task_refusal, rounds_refusal, grid_refusal, made_wheel, made_task, made_grid};
 
 // A wheel that was accepted.
-#[derive(Drop)]
+#[derive(Clone, Copy)]
 pub struct Wheel {
     pub w: usize,
 }
@@ -16,7 +18,7 @@ pub enum WheelMade {
 }
 
 // What the art desk asks, accepted: e ticks for each strip within d, a strip every h ticks, at least m of any k painted.
-#[derive(Drop)]
+#[derive(Clone, Copy)]
 pub struct Task {
     pub e: usize,
     pub d: usize,
@@ -46,6 +48,7 @@ pub enum GridMade {
 }
 
 // Whether x is 0 or above `most`.
+#[tactic(auto, unfolding(crate::specs::Limits::outside))]
 fn outside(x: usize, most: usize) -> bool
     ensures { result ≡ outside x most }
 {
