@@ -153,14 +153,6 @@ module _ {m : List ℕ} {s n r c drops p q round top i : ℕ} (l : Lapping m s n
         highest = omega (arith, most, l.highest, lap-rank, peak-more (rank_at m s n c) i);
       }
 
-  pub lap-end : r ≤ i → Lapped m s n r c (record { round = round; top = top })
-  lap-end end =
-      let e : i ≡ r = le_antisymm l.walked.some end in
-      record {
-        round = l.walked.count ∙ ap (λ a. fallen m s a c) e;
-        top = l.highest ∙ ap (peak (rank_at m s n c)) e;
-      }
-
 -- ---- counts by whole rounds
 
 module _ (m : List ℕ) {s g : ℕ} (k : ℕ) (some : 0 < length m) (d : Gcd (length m) s g) where

@@ -1,14 +1,14 @@
 -- Drawing runs into a map, one run a turn: out of the set and in it by turns. Assumes nothing.
-use mathlib.Core.Path.{◌≡◌, refl, ap, ◌∙◌}
+use mathlib.Core.Path.{◌≡◌, refl}
 use mathlib.Core.List.{List}
-use Prim.Native.Nat.{ℕ, suc, ◌+◌, ◌%◌, ◌≤◌}
+use Prim.Native.Nat.{ℕ, suc, ◌+◌, ◌≤◌}
 use native.Mathlib.Omega.{arith}
 use lib.ListN.{length}
 use Rattle.rules.specs.Sums.{Subset}
 use Rattle.runs.specs.Runs.{edge, Laid, Runs}
 use Rattle.runs.proofs.Edges.{edge-past}
-use Rattle.maps.specs.Maps.{Drawn, Stretched}
-use Rattle.maps.proofs.Draws.{Upto, run-drawn, edge-most}
+use Rattle.maps.specs.Maps.{Drawn}
+use Rattle.maps.proofs.Draws.{Upto, edge-most}
 
 -- The runs before this one are drawn, up to where it starts.
 pub record Marking (l m₀ m : List ℕ) (run at : ℕ) : Type 0 where
@@ -32,19 +32,6 @@ mark-start runs =
 pub mark-inside : {l m₀ m : List ℕ} {run at end : ℕ} → Marking l m₀ m run at → end ≡ edge l (length m₀) (suc run) → end ≤ length m
 unfolding edge
 mark-inside {l} {m₀} {run = run} d e = omega (arith, edge-most l (length m₀) d.some (suc run), d.long)
-
-pub mark-next :
-    {l m₀ m m' : List ℕ} {run at end : ℕ} → Marking l m₀ m run at → run ≤ length l → end ≡ edge l (length m₀) (suc run)
-    → Stretched m m' at end (run % 2) → Marking l m₀ m' (run + 1) end
-unfolding edge
-mark-next {l} {m₀} {run = run} d more e filled =
-    record {
-      some = d.some;
-      long = filled.long ∙ d.long;
-      few = omega arith;
-      here = let next : suc run ≡ run + 1 = omega arith in e ∙ ap (edge l (length m₀)) next;
-      done = λ z laid. run-drawn laid.lay run d.here e filled (d.done z laid);
-    }
 
 -- Behind the last run the wheel ends.
 pub mark-end :

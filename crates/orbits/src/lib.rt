@@ -1,3 +1,5 @@
+#![tactic(auto)]
+
 // The second engine: strips counted by whole rounds, with no code of the first one's behind the late runs. On a wheel of w ticks strips h ticks
 // apart come back to their first place after w / g of them, where g is the greatest common divisor of w and h: one round. Their places are the
 // ticks that lie as many ticks behind a multiple of g as the first one does, an orbit; there are g of those.
