@@ -34,7 +34,7 @@ pub enum TaskMade {
 }
 
 // The n equal slots of v ticks of a grant, accepted. Where the processor changes hands, a slot's first ticks go to the switch: the loss.
-#[derive(Drop)]
+#[derive(Clone, Copy)]
 pub struct Grid {
     pub n: usize,
     pub v: usize,
