@@ -9,9 +9,6 @@ use Prim.Native.Nat.{ℕ, zero, suc, ◌+◌, ◌*◌, ◌/◌, ◌%◌, ◌≤�
 use native.Mathlib.Omega.{arith}
 use lib.IntN.{ℤ}
 use lib.ListN.{length, take}
-use mir.Syntax.{w32}
-use mir.Val.{SFits, to_z, of_z}
-use mir.Facts.{to_z-of_z}
 use lib.Seq.{length-take-le}
 use Rattle.rules.specs.Sums.{Subset, Largest}
 use Rattle.rules.specs.Supply as rules
@@ -74,13 +71,6 @@ ridged l w t n late late' map map' c a lent lates kept top = (
     record { runs = lent.runs; within = lent.within; room = omega (arith, lent.room, lates.long); long = kept ∙ lent.long },
   ),
 )
-
--- The same of a summit made of it.
-pub summited :
-    {l : List ℕ} {w : ℕ} {t : Task} {late map : List ℕ} {c a drops at : ℕ} {g margin : ℤ} → SFits w32 g
-    → (drops ≡ c) × (at ≡ a) × (margin ≡ to_z w32 (of_z w32 g)) → Highest l w t c a × (Nearest l w t g × Lent l w t late map)
-    → Highest l w t drops at × (Nearest l w t margin × Lent l w t late map)
-summited fits e h = rw (e.0, e.1, e.2, to_z-of_z fits) h
 
 pub highest-inside :
     (l : List ℕ) (w : ℕ) (t : Task) (c a : ℕ) → Runs l w → Highest l w t c a → a < most_ticks

@@ -1,7 +1,7 @@
 -- From late runs to the verdict: a table is firm where from no tick more than k − m strips meet a late tick half a tick after it.
 --
 -- In order: what a search or the largest count tells; from late runs to firm; what is told for nothing. Assumes nothing.
-use mathlib.Core.Path.{◌≡◌, refl, sym, ap, ◌∙◌}
+use mathlib.Core.Path.{◌≡◌, refl}
 use mathlib.Core.Bool.{Bool, true, false}
 use mathlib.Core.List.{List}
 use Prim.Native.Nat.{ℕ, ◌+◌, ◌-◌, ◌*◌, ◌≤◌, ◌<◌}
@@ -11,9 +11,6 @@ use lib.Dec.{leb}
 use lib.IntN.{ℤ, pos}
 use lib.Signed.{lt_z}
 use lib.ListN.{take}
-use mir.Syntax.{w32}
-use mir.Val.{SFits, to_z, of_z}
-use mir.Facts.{to_z-of_z}
 use borrow.Author.Tests.{leb-true, le-leb}
 use Rattle.rules.specs.Sums.{Subset, bit}
 use Rattle.rules.specs.Supply.{dropped, drops, count}
@@ -85,14 +82,12 @@ pub decides-all : (l : List ℕ) (w : ℕ) (t : Task) → t.m ≡ 0 → Decides 
 unfolding Decides
 decides-all l w t none u laid = (λ _. firm-all u (asked t) none, λ _. refl)
 
--- Where the least margin, as a signed local has it, isn't below zero no strip drops.
+-- Where the least margin isn't below zero no strip drops.
 pub decides-painted :
-    (l : List ℕ) (w : ℕ) (t : Task) (g : ℤ) → SFits w32 g → Nearest l w t g → lt_z (to_z w32 (of_z w32 g)) (pos 0) ≡ false
-    → Decides l w t true
+    (l : List ℕ) (w : ℕ) (t : Task) (g : ℤ) → Nearest l w t g → lt_z g (pos 0) ≡ false → Decides l w t true
 unfolding Nearest Decides Painted Firm count drops bit
-decides-painted l w t g fits near above u laid =
-    let sign : lt_z g (pos 0) ≡ false = ap (λ z. lt_z z (pos 0)) (sym (to_z-of_z fits)) ∙ above in
-    let painted = (least-tells w u (asked t) g (near u laid)).0 (zero-le g sign) in (
+decides-painted l w t g near above u laid =
+    let painted = (least-tells w u (asked t) g (near u laid)).0 (zero-le g above) in (
       λ _ q p q+.
           let none = number-const (λ i. dropped q u (asked t) (p + i * (q * t.h))) false t.k (λ i _. painted q (p + i * (q * t.h)) q+) in
           omega (arith, none, mul-zero t.k),

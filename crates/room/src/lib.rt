@@ -1,3 +1,5 @@
+#![tactic(auto)]
+
 // Every array as long as a wheel, in sizes, so that a small wheel doesn't clear a large one's. Whatever is asked of runs and a task is found in
 // what the room lends.
 mod doubled;

@@ -35,7 +35,7 @@ fn slides(edges: usize, k: usize, w: usize) -> bool
 // The largest count of k strips along late runs, or a map of them to double on. Where there are none nothing is drawn.
 fn outline(late: &[u16], map: &mut [u8], h: usize, k: usize) -> Outline
     requires runs { Runs late.now (length map.old) × (length late.now ≤ length map.old) }
-    requires h_le_most_period { (h ≤ most_period) × (0 < k) × (k ≤ most_strips) }
+    requires strips { (h ≤ most_period) × (0 < k) × (k ≤ most_strips) }
     ensures { Outlined late.now map.new h k result }
 {
     if late.len() == 0 {
@@ -62,7 +62,7 @@ fn summit(c: Crest, margin: i32) -> Summit
 // The largest count of k strips along late runs, in the room's own arrays where it takes doubling.
 fn crest(late: &[u16], map: &mut [u8], h: usize, k: usize) -> Crest
     requires runs { Runs late.now (length map.old) × (length late.now ≤ length map.old) }
-    requires h_le_most_period { (h ≤ most_period) × (0 < k) × (k ≤ most_strips) }
+    requires strips { (h ≤ most_period) × (0 < k) × (k ≤ most_strips) }
     ensures { Topped late.now (length map.old) h k result.drops result.at }
 {
     match outline(late, map, h, k) {
@@ -74,7 +74,7 @@ fn crest(late: &[u16], map: &mut [u8], h: usize, k: usize) -> Crest
 // The same on the part of a map that is as long as the wheel.
 pub fn top(late: &[u16], w: usize, h: usize, k: usize, map: &mut [u8]) -> Crest
     requires runs { Runs late.now w × (length late.now ≤ w) × (w ≤ length map.old) }
-    requires h_le_most_period { (h ≤ most_period) × (0 < k) × (k ≤ most_strips) }
+    requires strips { (h ≤ most_period) × (0 < k) × (k ≤ most_strips) }
     ensures { Topped late.now w h k result.drops result.at }
 {
     let part = &mut map[..w];
@@ -112,7 +112,7 @@ pub fn ridge_in(
     requires doubles { Doubles w low.old spare.old here.old there.old }
     ensures highest { Highest runs.now w task result.drops result.at }
     ensures nearest { Nearest runs.now w task result.margin }
-    ensures lent_2 { Lent runs.now w task late.new map.new }
+    ensures still_lent { Lent runs.now w task late.new map.new }
 {
     let pass = late::late(runs, w, task, 1, late);
     let n = pass.edges;
@@ -168,7 +168,7 @@ pub fn settle(
     map: &mut [u8],
 ) -> Peak
     requires lent { Lent runs.now w task late.old map.old }
-    requires highest { Highest runs.now w task top.drops top.at × Nearest runs.now w task top.margin }
+    requires top { Highest runs.now w task top.drops top.at × Nearest runs.now w task top.margin }
     ensures { Found runs.now w task result }
 {
     Peak {
