@@ -1,3 +1,5 @@
+#![tactic(auto)]
+
 // What an accepted job answers. The buffer that its slots are laid out in is lent in two sizes, so that a small board doesn't clear a large one's.
 pub mod laid;
 
