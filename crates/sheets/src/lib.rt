@@ -1,5 +1,7 @@
+#![tactic(auto)]
+
 // The printed sheet: its text from two byte strings, and from two files to standard output.
-ghost use Rattle.std.specs.Prelude.{◌≡◌, ◌+◌, ◌*◌, ◌≤◌, length};
+ghost use Rattle.std.specs.Prelude.{◌≡◌, ◌+◌, ◌*◌, ◌≤◌, length, IfOk};
 ghost use Rattle.io.specs.Counts.{IsPrefixLen};
 ghost use Rattle.lines.specs.Lines.{longest_line};
 ghost use Rattle.records.specs.Records.{whole};
@@ -7,6 +9,9 @@ ghost use Rattle.sheets.specs.Sheets.{most_text, bad, RowPut, RowsPut, Filled};
 
 use records::answer::Answer;
 use records::{Slot, TaskRecord};
+use std::io::Read;
+use std::rt::Files;
+use std::{fs, io};
 
 // The longest file.
 const MOST_BYTES: usize = 65536;
@@ -69,36 +74,50 @@ pub fn sheet(tasks: &[u8], slots: &[u8], out: &mut [u8; MOST_TEXT]) -> usize
     lines::refused(out, at)
 }
 
+// Reads to the end of the file, or until the buffer is full, and answers how many bytes came.
+fn fill(file: &mut impl Read, buf: &mut [u8]) -> io::Result<usize>
+    ensures { IfOk result (λ n. IsPrefixLen n buf.new) }
+{
+    let mut done = 0;
+    while done < buf.len() {
+        let n = file.read(&mut buf[done..])?;
+        if n == 0 {
+            break;
+        }
+        done += n;
+    }
+    Ok(done)
+}
+
+// Opens a file and reads it.
+fn load(rt: &impl Files, path: &str, buf: &mut [u8]) -> io::Result<usize>
+    ensures { IfOk result (λ n. IsPrefixLen n buf.new) }
+{
+    let mut file = fs::open(rt, path)?;
+    fill(&mut file, buf)
+}
+
 // Reads a file and answers its length. A missing, too long or unreadable one counts as filling the buffer, which has a byte more than a
 // file may have, so that each leaves the one line alone.
-fn read(path: &[u8], buf: &mut [u8]) -> usize
+fn read(rt: &impl Files, path: &str, buf: &mut [u8]) -> usize
     ensures { IsPrefixLen result buf.new }
 {
-    let fd = os::open_read(path);
-    if fd < 0 {
-        return buf.len();
+    match load(rt, path, buf) {
+        Ok(n) => n,
+        Err(_) => buf.len(),
     }
-    let n = io::read_full(fd, buf);
-    // A read that fails looks like the end of the file to `read_full`; one more read tells them apart.
-    let mut more = [0u8; 1];
-    let end = libc::read(fd, &mut more);
-    libc::close(fd);
-    if end != 0 {
-        return buf.len();
-    }
-    n
 }
 
 // Prints the sheet of two files, in one write, and answers how many bytes it has.
-pub fn print(tasks: &[u8], slots: &[u8]) -> usize
-    ensures { result ≤ most_text }
+pub fn print(rt: &(impl Files + Print), tasks: &str, slots: &str) -> io::Result<usize>
+    ensures { IfOk result (λ n. n ≤ most_text) }
 {
     let mut task_file = [0u8; MOST_BYTES + 1];
     let mut slot_file = [0u8; MOST_BYTES + 1];
     let mut out = [0u8; MOST_TEXT];
-    let t = read(tasks, &mut task_file);
-    let s = read(slots, &mut slot_file);
+    let t = read(rt, tasks, &mut task_file);
+    let s = read(rt, slots, &mut slot_file);
     let n = sheet(&task_file[..t], &slot_file[..s], &mut out);
-    io::write_all(libc::STDOUT_FILENO, &out[..n]);
-    n
+    rt.write_all(&out[..n])?;
+    Ok(n)
 }
