@@ -1,4 +1,9 @@
+#![tactic(auto)]
+
 // Prints the sheet of tasks.bin and slots.bin in the current folder.
-fn main() {
-    sheets::print(b"tasks.bin", b"slots.bin");
+use std::io;
+
+fn main(rt: HostRuntime) -> io::Result<()> {
+    sheets::print(&rt, "tasks.bin", "slots.bin")?;
+    Ok(())
 }
