@@ -1,100 +1,123 @@
+#![tactic(auto)]
+
 // Prints the sheet of each folder of data/, below its name.
+use std::io;
+use std::rt::Files;
 
 // The folder's name, then its sheet.
-fn folder(name: &[u8], tasks: &[u8], slots: &[u8]) {
-    io::write_all(libc::STDOUT_FILENO, name);
-    sheets::print(tasks, slots);
+fn folder(rt: &(impl Files + Print), name: &str, tasks: &str, slots: &str) -> io::Result<()> {
+    rt.print(name)?;
+    sheets::print(rt, tasks, slots)?;
+    Ok(())
 }
 
 // Files that are read to their ends.
-fn good() {
+fn good(rt: &(impl Files + Print)) -> io::Result<()> {
     folder(
-        b"good-example\n",
-        b"good-example/tasks.bin",
-        b"good-example/slots.bin",
-    );
+        rt,
+        "good-example\n",
+        "good-example/tasks.bin",
+        "good-example/slots.bin",
+    )?;
     folder(
-        b"good-no-tasks\n",
-        b"good-no-tasks/tasks.bin",
-        b"good-no-tasks/slots.bin",
-    );
+        rt,
+        "good-no-tasks\n",
+        "good-no-tasks/tasks.bin",
+        "good-no-tasks/slots.bin",
+    )?;
     folder(
-        b"good-both-empty\n",
-        b"good-both-empty/tasks.bin",
-        b"good-both-empty/slots.bin",
-    );
+        rt,
+        "good-both-empty\n",
+        "good-both-empty/tasks.bin",
+        "good-both-empty/slots.bin",
+    )?;
     folder(
-        b"good-part-alone\n",
-        b"good-part-alone/tasks.bin",
-        b"good-part-alone/slots.bin",
-    );
+        rt,
+        "good-part-alone\n",
+        "good-part-alone/tasks.bin",
+        "good-part-alone/slots.bin",
+    )?;
     folder(
-        b"good-part-behind\n",
-        b"good-part-behind/tasks.bin",
-        b"good-part-behind/slots.bin",
-    );
+        rt,
+        "good-part-behind\n",
+        "good-part-behind/tasks.bin",
+        "good-part-behind/slots.bin",
+    )?;
     folder(
-        b"good-longest-tasks\n",
-        b"good-longest-tasks/tasks.bin",
-        b"good-longest-tasks/slots.bin",
-    );
+        rt,
+        "good-longest-tasks\n",
+        "good-longest-tasks/tasks.bin",
+        "good-longest-tasks/slots.bin",
+    )?;
     folder(
-        b"good-longest-slots\n",
-        b"good-longest-slots/tasks.bin",
-        b"good-longest-slots/slots.bin",
-    );
+        rt,
+        "good-longest-slots\n",
+        "good-longest-slots/tasks.bin",
+        "good-longest-slots/slots.bin",
+    )?;
+    Ok(())
 }
 
 // Folders that give the one line alone.
-fn bad() {
+fn bad(rt: &(impl Files + Print)) -> io::Result<()> {
     folder(
-        b"bad-tasks-missing\n",
-        b"bad-tasks-missing/tasks.bin",
-        b"bad-tasks-missing/slots.bin",
-    );
+        rt,
+        "bad-tasks-missing\n",
+        "bad-tasks-missing/tasks.bin",
+        "bad-tasks-missing/slots.bin",
+    )?;
     folder(
-        b"bad-slots-missing\n",
-        b"bad-slots-missing/tasks.bin",
-        b"bad-slots-missing/slots.bin",
-    );
+        rt,
+        "bad-slots-missing\n",
+        "bad-slots-missing/tasks.bin",
+        "bad-slots-missing/slots.bin",
+    )?;
     folder(
-        b"bad-tasks-too-long\n",
-        b"bad-tasks-too-long/tasks.bin",
-        b"bad-tasks-too-long/slots.bin",
-    );
+        rt,
+        "bad-tasks-too-long\n",
+        "bad-tasks-too-long/tasks.bin",
+        "bad-tasks-too-long/slots.bin",
+    )?;
     folder(
-        b"bad-slots-too-long\n",
-        b"bad-slots-too-long/tasks.bin",
-        b"bad-slots-too-long/slots.bin",
-    );
+        rt,
+        "bad-slots-too-long\n",
+        "bad-slots-too-long/tasks.bin",
+        "bad-slots-too-long/slots.bin",
+    )?;
     folder(
-        b"bad-slots-full\n",
-        b"bad-slots-full/tasks.bin",
-        b"bad-slots-full/slots.bin",
-    );
+        rt,
+        "bad-slots-full\n",
+        "bad-slots-full/tasks.bin",
+        "bad-slots-full/slots.bin",
+    )?;
     folder(
-        b"bad-slots-part\n",
-        b"bad-slots-part/tasks.bin",
-        b"bad-slots-part/slots.bin",
-    );
+        rt,
+        "bad-slots-part\n",
+        "bad-slots-part/tasks.bin",
+        "bad-slots-part/slots.bin",
+    )?;
+    Ok(())
 }
 
 // A folder in place of a file opens, and reading it fails.
-fn unreadable() {
+fn unreadable(rt: &(impl Files + Print)) -> io::Result<()> {
     folder(
-        b"bad-tasks-folder\n",
-        b"bad-tasks-folder/tasks.bin",
-        b"bad-tasks-folder/slots.bin",
-    );
+        rt,
+        "bad-tasks-folder\n",
+        "bad-tasks-folder/tasks.bin",
+        "bad-tasks-folder/slots.bin",
+    )?;
     folder(
-        b"bad-slots-folder\n",
-        b"bad-slots-folder/tasks.bin",
-        b"bad-slots-folder/slots.bin",
-    );
+        rt,
+        "bad-slots-folder\n",
+        "bad-slots-folder/tasks.bin",
+        "bad-slots-folder/slots.bin",
+    )?;
+    Ok(())
 }
 
-fn main() {
-    good();
-    bad();
-    unreadable();
+fn main(rt: HostRuntime) -> io::Result<()> {
+    good(&rt)?;
+    bad(&rt)?;
+    unreadable(&rt)
 }
