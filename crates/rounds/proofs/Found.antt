@@ -3,7 +3,7 @@
 -- In order: late runs; the map of them; the largest count along it; what a job lends. Assumes nothing.
 use mathlib.Core.Path.{◌≡◌, ◌∙◌}
 use mathlib.Core.List.{List}
-use Prim.Native.Nat.{ℕ, ◌≤◌, min}
+use Prim.Native.Nat.{ℕ}
 use native.Mathlib.Nat.{le_of_eq, min-le_left}
 use native.Mathlib.Omega.{arith}
 use lib.IntN.{ℤ}
@@ -11,27 +11,20 @@ use lib.ListN.{length, take}
 use lib.Seq.{length-take-le}
 use Rattle.rules.specs.Sums.{Subset}
 use Rattle.rules.specs.Supply.{margin, dropped}
-use Rattle.limits.specs.Limits.{Within}
 use Rattle.limits.specs.declared.Task.{Task}
 use Rattle.runs.specs.Runs.{Laid, Runs, LaidIn}
 use Rattle.maps.specs.Maps.{Drawn, Top}
 use Rattle.late.specs.Late.{late_room, LateIn}
 use Rattle.orbits.specs.Orbits.{Ring}
-use Rattle.records.specs.Jobs.{job_ticks, Good}
+use Rattle.records.specs.Jobs.{job_ticks}
 use Rattle.records.specs.declared.Job.{Job}
-use Rattle.room.specs.Room.{most_edges, Lent, Highest}
+use Rattle.room.specs.Room.{Lent, Highest}
 use Rattle.room.proofs.Sides.{drawn-bits}
 use Rattle.room.proofs.Ridges.{topped-drawn, highest}
 use Rattle.room.proofs.Handed.{handed}
-use Rattle.jobs.specs.Lent.{Holds}
 use Rattle.rounds.specs.Long.{single, singly, Long, Ready, Desk}
 
 -- ---- late runs
-
-pub late_asked :
-    {l : List ℕ} {w : ℕ} {t s : Task} {late map : List ℕ} {side : ℕ} → Lent l w (single t) late map → Long t → s ≡ single t → side ≤ 1
-    → Runs l w × Within s × (side ≤ 1) × (min (late_room (length l)) w ≤ length late)
-late_asked lent task one half = rw one (lent.runs, lent.within, half, lent.room)
 
 pub late-any :
     {l : List ℕ} {w : ℕ} {t s : Task} {side n : ℕ} {g : ℤ} {late late' : List ℕ} → s ≡ single t → LateIn l w s side late n g late'
@@ -79,12 +72,6 @@ ridged lent task one lates kept drawn top = (
 )
 
 -- ---- what a job lends
-
-pub lay-asked :
-    {l : List ℕ} {j s : Job} {runs : List ℕ} → Ready l j → s ≡ singly j → length runs ≡ most_edges → Good l s × Holds s runs
-lay-asked ready one long =
-    let good = ready.good in
-    rw one (good, record { room = omega (arith, good.slots); one = omega arith; most = omega arith })
 
 pub laid-own :
     {l r r' : List ℕ} {n : ℕ} {j s : Job} → Ready l j → s ≡ singly j → LaidIn r r' n s.wheel.w (job_ticks l s)

@@ -1,3 +1,5 @@
+#![tactic(auto)]
+
 // The second engine: counting and judging by whole rounds, for windows of up to a million strips. It has the first one's way from bytes to late
 // runs, and nothing of what is behind them.
 mod work;
