@@ -24,6 +24,7 @@ pub fn nowhere(number: u32) -> Trouble
 }
 
 // Slot record `first` + i.
+#[tactic(auto, unfolding(crate::specs::Records::slot_at))]
 pub fn slot_at(slots: &[u8], first: usize, i: usize) -> Slot
     requires { first + i < length slots.now / slot_bytes }
     ensures { result ≡ slot_at slots.now first i }

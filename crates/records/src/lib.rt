@@ -1,3 +1,5 @@
+#![tactic(auto)]
+
 // Task, slot and answer records: reading them, and refusing them in the one fixed order.
 pub mod answer;
 pub mod board;
@@ -9,7 +11,7 @@ ghost use Rattle.records.specs.Refusals.{sizes, checked};
 use limits::{Task, TaskMade, Wheel, WheelMade};
 
 // The numbers of a task record, as they stand in it.
-#[derive(Drop)]
+#[derive(Clone, Copy)]
 pub struct TaskRecord {
     pub id: usize,
     pub w: usize,
@@ -28,7 +30,7 @@ impl TaskRecord {
 
 // The numbers of a slot record: from `start` to `end` the processor is the owner's. Where it changes hands, the first ticks go to the switch: the
 // loss.
-#[derive(Drop)]
+#[derive(Clone, Copy)]
 pub struct Slot {
     pub start: usize,
     pub end: usize,
@@ -41,7 +43,7 @@ impl Slot {
 }
 
 // A task record that was accepted: a good wheel and task, the part of the slot buffer that is its board, and whose slots there are its own.
-#[derive(Drop)]
+#[derive(Clone, Copy)]
 pub struct Job {
     pub wheel: Wheel,
     pub owner: usize,
