@@ -1,15 +1,14 @@
 -- What the loop keeps and what is counted at each way out are laws of `Carried` (proofs/Carried.antt).
-use Rattle.std.proofs.Common.{◌≡◌, ◌+◌, ◌%◌, length, arith}
+use Rattle.std.proofs.Common.{length, arith}
 use Rattle.std.proofs.Math.Nat.{add-mod-mod}
 use Rattle.maps.proofs.Carried.{carried-start, carried-next, count-end, one_more, two-more, three-more}
 use Rattle.maps.proofs.along.Goals as goal
 
--- `to-b` holds for the period unturned too, so that must-fail/period_unturned.edit falls by `onward-b-requires`, its false fact.
+-- `cc` finds where b is for the period unturned too, so that must-fail/period_unturned.edit falls by `onward-b-requires`, its false fact.
 pub loop-i-init : goal.loop-i-init
 loop-i-init c =
-    let w = length c.args.map.now in
-    let to-b : c.onward-b.result ≡ (c.args.p + c.args.h % w) % w = cc (c.onward-b.ensures.0, add-mod-mod c.args.p c.args.h w) in
-    carried-start c.requires.0 c.requires.1 c.onward-two.ensures c.onward-four.ensures (to-b, c.onward-b.ensures.1) c.onward-c.ensures
+    carried-start c.requires.0 c.requires.1 c.onward-two.ensures c.onward-four.ensures
+    (cc (c.onward-b.ensures.0, add-mod-mod c.args.p c.args.h (length c.args.map.now)), c.onward-b.ensures.1) c.onward-c.ensures
     c.onward-d.ensures
 
 pub loop-i-preserved : goal.loop-i-preserved
