@@ -1,3 +1,5 @@
+#![tactic(auto)]
+
 // A task record by its id, from the site file or the factory file.
 ghost use Rattle.std.specs.Prelude.{◌≡◌};
 ghost use Rattle.lookup.specs.Lookup.{place, looked_up};
