@@ -1,3 +1,5 @@
+#![tactic(auto)]
+
 // Whether from some tick more strips drop than are allowed: the candidate offsets are walked, and strips and offsets are left together as soon as
 // one count passes the allowance.
 ghost use Rattle.std.specs.Prelude.{◌≡◌, true, ◌*◌, ◌≤◌, ◌<◌, length};
@@ -122,7 +124,7 @@ fn affords(edges: usize, w: usize, k: usize) -> bool
 // Whether more than `allowed` of k strips, h ticks apart, meet a late tick from some tick on.
 pub fn search(zones: &[u16], w: usize, h: usize, k: usize, allowed: usize) -> Outcome
     requires runs { Runs zones.now w × (length zones.now ≤ w) }
-    requires h_le_most_period { (h ≤ most_period) × (0 < k) × (k ≤ most_strips) × (allowed ≤ most_strips) }
+    requires strips { (h ≤ most_period) × (0 < k) × (k ≤ most_strips) × (allowed ≤ most_strips) }
     ensures { Says zones.now w h k allowed result }
 {
     if crowds(zones, w, k, allowed) {
