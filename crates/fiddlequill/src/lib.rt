@@ -1,4 +1,6 @@
-// What the desk's C program calls. Every call takes any bytes and any 64-bit numbers; a number that doesn't fit is refused by its bound.
+#![tactic(auto)]
+
+// What the desk asks, each answer in one number as C takes it; fiddlequill_c exports these calls. Every call takes any bytes and any 64-bit numbers; a number that doesn't fit is refused by its bound.
 ghost use Rattle.std.specs.Prelude.{◌≡◌};
 ghost use Rattle.rules.specs.Sums.{bit};
 ghost use Rattle.records.specs.Refusals.{point_refusal};
@@ -17,24 +19,21 @@ fn pack(number: u32, value: u32) -> u64
 }
 
 // Judges a task record on a slot buffer; the result is the refusal number, and the reply gets the answer record.
-#[unsafe(no_mangle)]
-pub extern "C" fn fiddlequill_judge(task: &[u8], slots: &[u8], reply: &mut [u8]) -> u32
+pub fn fiddlequill_judge(task: &[u8], slots: &[u8], reply: &mut [u8]) -> u32
     ensures { Judged task.now slots.now reply.old result reply.new }
 {
     judge::judge(task, slots, reply)
 }
 
 // Judges every task record of a site on one slot buffer; the result is the refusal number, and each answer goes into its own place of the reply.
-#[unsafe(no_mangle)]
-pub extern "C" fn fiddlequill_site(tasks: &[u8], slots: &[u8], reply: &mut [u8]) -> u32
+pub fn fiddlequill_site(tasks: &[u8], slots: &[u8], reply: &mut [u8]) -> u32
     ensures { Sited tasks.now slots.now reply.old result reply.new }
 {
     site::site(tasks, slots, reply)
 }
 
 // Which slot of the task's board is bad, and what about it; the refusal number and the slot's place, packed.
-#[unsafe(no_mangle)]
-pub extern "C" fn fiddlequill_which_slot(task: &[u8], slots: &[u8]) -> u64
+pub fn fiddlequill_which_slot(task: &[u8], slots: &[u8]) -> u64
     ensures { PackedWhich task.now slots.now result }
 {
     let t = which::which_slot(task, slots);
@@ -42,8 +41,7 @@ pub extern "C" fn fiddlequill_which_slot(task: &[u8], slots: &[u8]) -> u64
 }
 
 // Counts the drops from a half tick; the refusal number and the count, packed.
-#[unsafe(no_mangle)]
-pub extern "C" fn fiddlequill_count(task: &[u8], slots: &[u8], offset: u64) -> u64
+pub fn fiddlequill_count(task: &[u8], slots: &[u8], offset: u64) -> u64
     ensures { result ≡ packed (point_refusal task.now slots.now offset) (counted_at task.now slots.now offset) }
 {
     let counted = judge::count(task, slots, offset);
@@ -51,8 +49,7 @@ pub extern "C" fn fiddlequill_count(task: &[u8], slots: &[u8], offset: u64) -> u
 }
 
 // The supply at a half tick, in half ticks; the refusal number and the supply, packed.
-#[unsafe(no_mangle)]
-pub extern "C" fn fiddlequill_supply(task: &[u8], slots: &[u8], offset: u64) -> u64
+pub fn fiddlequill_supply(task: &[u8], slots: &[u8], offset: u64) -> u64
     ensures { result ≡ packed (point_refusal task.now slots.now offset) (supplied_at task.now slots.now offset) }
 {
     let supplied = judge::supply(task, slots, offset);
@@ -60,8 +57,7 @@ pub extern "C" fn fiddlequill_supply(task: &[u8], slots: &[u8], offset: u64) -> 
 }
 
 // The margin of a strip at a half tick, in half ticks; the refusal number and the margin's two's complement, packed.
-#[unsafe(no_mangle)]
-pub extern "C" fn fiddlequill_margin(task: &[u8], slots: &[u8], offset: u64) -> u64
+pub fn fiddlequill_margin(task: &[u8], slots: &[u8], offset: u64) -> u64
     ensures { result ≡ packed (point_refusal task.now slots.now offset) (twos (margin_at task.now slots.now offset)) }
 {
     let measured = judge::margin(task, slots, offset);
@@ -69,16 +65,14 @@ pub extern "C" fn fiddlequill_margin(task: &[u8], slots: &[u8], offset: u64) -> 
 }
 
 // Judges by whole rounds, as `fiddlequill_judge` but for windows of up to a million strips.
-#[unsafe(no_mangle)]
-pub extern "C" fn fiddlequill_rounds_judge(task: &[u8], slots: &[u8], reply: &mut [u8]) -> u32
+pub fn fiddlequill_rounds_judge(task: &[u8], slots: &[u8], reply: &mut [u8]) -> u32
     ensures { RoundsJudged task.now slots.now reply.old result reply.new }
 {
     rounds::rounds_judge(task, slots, reply)
 }
 
 // Counts the drops from a half tick by whole rounds; the refusal number and the count, packed.
-#[unsafe(no_mangle)]
-pub extern "C" fn fiddlequill_rounds_count(task: &[u8], slots: &[u8], offset: u64) -> u64
+pub fn fiddlequill_rounds_count(task: &[u8], slots: &[u8], offset: u64) -> u64
     ensures { result ≡ packed (rounds_point_refusal task.now slots.now offset) (rounds_counted_at task.now slots.now offset) }
 {
     let found = rounds::rounds_count(task, slots, offset);
@@ -93,8 +87,7 @@ fn bit(firm: bool) -> u32
 }
 
 // Whether the task is firm; the refusal number and 1 or 0, packed.
-#[unsafe(no_mangle)]
-pub extern "C" fn fiddlequill_quick(task: &[u8], slots: &[u8]) -> u64
+pub fn fiddlequill_quick(task: &[u8], slots: &[u8]) -> u64
     ensures { PackedQuick task.now slots.now result }
 {
     let verdict = quick::quick(task, slots);
@@ -102,8 +95,7 @@ pub extern "C" fn fiddlequill_quick(task: &[u8], slots: &[u8]) -> u64
 }
 
 // Grants the first free slots; the refusal number and how many were granted, packed. A grant turns their marks into 2.
-#[unsafe(no_mangle)]
-pub extern "C" fn fiddlequill_grant(
+pub fn fiddlequill_grant(
     marks: &mut [u8],
     v: u64,
     loss: u64,
