@@ -1,3 +1,5 @@
+#![tactic(auto)]
+
 // Which slot of a task's board is bad, and what about it.
 ghost use Rattle.which.specs.Which.{Which};
 
