@@ -1,3 +1,5 @@
+#![tactic(auto)]
+
 // The public questions of a task record and a slot buffer. Every byte string gets its reply: bad records are refused by number, in the one
 // fixed order, and a refusal writes only what docs/RULES.md names.
 mod point;
