@@ -1,3 +1,5 @@
+#![tactic(auto)]
+
 // Just yes or no: whether a table is firm for a task, without the worst count. Every byte string gets its reply.
 ghost use Rattle.std.specs.Prelude.{◌≡◌, false};
 ghost use Rattle.quick.specs.Quick.{Quick};
