@@ -1,3 +1,5 @@
+#![tactic(auto)]
+
 // The usable ticks of a task on its board, or of a grant, as runs. Behind this crate nothing knows of slots, owners, losses or marks.
 ghost use Rattle.std.specs.Prelude.{◌≡◌, ◌&&◌, ◌+◌, ◌*◌, ◌/◌, ◌≤◌, ◌<◌, eqb, ltb, length};
 ghost use Rattle.rules.specs.Sums.{bit, number};
@@ -99,8 +101,8 @@ fn given(mark: u8, seen: usize, j: usize) -> bool
 
 // Where a grant's first slot is met as the wheel turns: by its last one, if that is granted, too. It is where all free ones are and it is free.
 fn met_granted(marks: &[u8], g: Grid, all: usize, j: usize) -> usize
-    requires v_nonzero { (0 < length marks.now * g.v) × (length marks.now * g.v ≤ most_ticks) }
-    requires all_value { all ≡ number (free_of marks.now) (length marks.now) }
+    requires wheel { (0 < length marks.now * g.v) × (length marks.now * g.v ≤ most_ticks) }
+    requires all_free { all ≡ number (free_of marks.now) (length marks.now) }
     ensures { result ≡ met_first (length marks.now * g.v) (grid (length marks.now) g.v g.loss (first (free_of marks.now) j)) (length marks.now) }
 {
     let w = marks.len() * g.v;
