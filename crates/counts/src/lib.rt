@@ -1,3 +1,5 @@
+#![tactic(auto)]
+
 // Supply and margin at a half tick, from the runs of usable ticks alone: no buffer, and no walk along the wheel.
 ghost use Rattle.std.specs.Prelude.{◌≡◌, ◌*◌, ◌/◌, ◌≤◌, ◌<◌, pos};
 ghost use Rattle.std.proofs.Math.IntN.{sub_ℕ};
