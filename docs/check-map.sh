@@ -92,7 +92,8 @@ for file in crates/*/specs/*.antt; do
         grep -qF "\`$name\`" "$map" || wrong "$map has no row for the law $name"
     done
 done
-for call in $(grep -ohE 'extern "C" fn [a-z_]+' crates/fiddlequill/src/lib.rt | sed 's/.* //'); do
+for call in $(grep -ohE 'extern "C" fn [a-z_]+' crates/fiddlequill_c/src/lib.rt | sed 's/.* //'); do
+    grep -qE "^pub fn $call\\(" crates/fiddlequill/src/lib.rt || wrong "the library hasn't the call $call"
     grep -qF "\`fiddlequill::$call\`" "$map" || wrong "$map has no row for the call $call"
     grep -qE "^uint(32|64)_t $call\\(" include/fiddlequill.h || wrong "the header hasn't the call $call"
 done
