@@ -1,6 +1,6 @@
 -- Two lists along a wheel added, the second turned against the first, in two stretches. Definitions only.
 --
---     byte_end, word_end             numbers below them fit 8 bits, 16 bits
+--     byte_end, word_end           numbers below them fit 8 bits, 16 bits
 --     Fit x y m                    an entry of x and one of y have a sum below m
 --     Stretch e x y from to at     places from .. to − 1 lie in e and x, and as many from at on lie in y
 --     Passed d e x y from to at    e has d's entries before the stretch, and in it x's there and y's as far behind at

@@ -2,7 +2,7 @@
 --
 --     Lit l w p b            b is 1 where tick p is in every set that the runs l lay out on w ticks, 0 where it is in none
 --     Met l w s n p c        c of n strips from tick p on, s ticks apart, meet such a set
---     start_of l w i          where the late run of entry i starts; the wheel's end is tick 0
+--     start_of l w i         where the late run of entry i starts; the wheel's end is tick 0
 --     Wraps l w              a late run comes over the wheel's end to tick 0, and another one starts
 --     Opens l w i            entry i is the first zone start's: 2 behind such a run, else 0
 --     Crowds l w k a         k strips from each tick of the wheel together meet more late ticks than a for each

@@ -1,12 +1,12 @@
 -- docs/RULES.md, "Granting slots": a whole call. Definitions only.
 --
---     bad_mark l                         12 for a mark that is neither 0 nor 1
---     grant_refusal l v loss e D h m k   12, then 6 to 10, the first that applies
+--     bad_mark l                        12 for a mark that is neither 0 nor 1
+--     grant_refusal l v loss e D h m k  12, then 6 to 10, the first that applies
 --     checked l v loss e D h m k        the grid and the task that granting goes on with, or the refusal
 --     Gridded l g                       what refusal 12 has shown of the marks and the grid
---     asked_for e D h m k                the rules' task
+--     asked_for e D h m k               the rules' task
 --     Marked l j after                  the first j free slots have mark 2, the others stay
---     first_ticks l g j                  the usable ticks of the first j free slots
+--     first_ticks l g j                 the usable ticks of the first j free slots
 --     Tries l g t all runs              what a trial is handed: marks, grid and task, the number of free slots, and a buffer for the runs
 --     FirmSays l g t j r                r says whether the first j free slots are firm
 --     Halving l g t a b                 the first b free slots are firm, and no number below a is

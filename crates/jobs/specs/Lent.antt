@@ -3,9 +3,9 @@
 --     Holds j runs       the buffer has room for two edges a slot record of the job's board, for one at least, and no more than the room takes
 --     Peaked l j r       r has the worst count and offset (rule 6) and the least margin
 --     Decided l j b      b says whether the job is firm (rule 7)
---     job_supply l j x    the supply from half tick x on, in half ticks (rule 2)
---     job_margin l j x    supply minus need of a strip at half tick x, in half ticks (rule 3)
---     job_count l j x     how many of the k strips from half tick x on are dropped (rule 4)
+--     job_supply l j x   the supply from half tick x on, in half ticks (rule 2)
+--     job_margin l j x   supply minus need of a strip at half tick x, in half ticks (rule 3)
+--     job_count l j x    how many of the k strips from half tick x on are dropped (rule 4)
 use Rattle.std.specs.Prelude.{◌≡◌, ◌↔◌, Bool, true, List, ℕ, ◌*◌, ◌≤◌, ◌<◌, ℤ, length}
 use Rattle.rules.specs.Supply.{supply, margin, count}
 use Rattle.rules.specs.Worst.{Worst, Firm}

@@ -3,7 +3,7 @@
 --     supplied_at t l x    the supply in half ticks, 0 beside a refusal
 --     margin_at t l x      supply minus need in half ticks, 0 beside a refusal
 --     counted_at t l x     the drop count, 0 beside a refusal
---     gated t l x         the job of an accepted call, or its refusal
+--     gated t l x          the job of an accepted call, or its refusal
 use Rattle.std.specs.Prelude.{List, ℕ, ℤ, pos}
 use Rattle.rules.specs.Supply.{supply, margin, count}
 use Rattle.limits.specs.Refusal.{if_none}

@@ -1,7 +1,7 @@
 -- Where strips are dropped and how near it came, from runs of usable ticks: supply is a straight line between edges, so it crosses the need once
 -- and is lowest at an end. Definitions only.
 --
---     need_in turned rest e                what whole turns leave of the need e, between 0 and rest + 1
+--     need_in turned rest e               what whole turns leave of the need e, between 0 and rest + 1
 --     short v need side a                 v is below the need at a, or `side` ticks after it
 --     Slope s m near far                  from s on, up by `far` and down by `near` a tick, m ticks don't lead below 0
 --     Line v s near far m                 v is such a line
@@ -18,7 +18,7 @@
 --     Bounds w rest side                  a wheel within its bound, a window of less than a turn, and a whole tick (side 0) or half a tick after it (1)
 --     Outset y k out                      a walk from k on meets its bounds and has room: for an edge a run, or an edge a tick
 --     Swept y k out k' out'               a walk from k to k', on which the far cursor has come to its end
---     late_room n                          the edges that suffice for what comes of n edges
+--     late_room n                         the edges that suffice for what comes of n edges
 --     Laying ..                           the ticks where the window of `rest` ticks holds less than the need, laid out in a buffer, and the least that it holds
 --     LateIn ..                           the ticks at which strips are dropped, laid out in a buffer, and the least margin
 use Rattle.std.specs.Prelude.{◌≡◌, ◌⊎◌, ◌||◌, List, ℕ, suc, ◌+◌, ◌-◌, ◌*◌, ◌%◌, ◌≤◌, ◌<◌, min, ltb, ℤ, length, take}

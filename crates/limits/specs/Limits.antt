@@ -1,7 +1,7 @@
 -- docs/RULES.md, refusals 4, 6 to 10, 19 and the size of a grant's wheel in 12, with the bounds they go by. Definitions only.
 --
---     most..                      the bounds, each before the refusal that goes by it
---     outside x most              x is 0 or above most
+--     most..                       the bounds, each before the refusal that goes by it
+--     outside x most               x is 0 or above most
 --     id_refusal id                19 for an id that no slot can have as its owner
 --     wheel_refusal w              4 for a bad wheel
 --     task_refusal e D h m k       6 to 10, the first that applies
@@ -9,9 +9,9 @@
 --     grid_refusal N v loss        12 for a bad number or length of slots, or a loss above it
 --     task_of e D h m k            the task of these numbers
 --     grid_of N v loss             the slots of these numbers
---     made..                      what a constructor answers to these numbers: the value, or the number of the refusal
---     asked t                     the rules' task of a task that was made
---     Within t                    what the refusals 6 to 10 have shown of a task that was made
+--     made..                       what a constructor answers to these numbers: the value, or the number of the refusal
+--     asked t                      the rules' task of a task that was made
+--     Within t                     what the refusals 6 to 10 have shown of a task that was made
 use Rattle.std.specs.Prelude.{Bool, ◌||◌, ℕ, ◌*◌, ◌≤◌, ◌<◌, ltb, eqb}
 use Rattle.rules.specs.Supply as rules
 use Rattle.limits.specs.Refusal.{◌when◌, ◌otherwise◌, if_none}

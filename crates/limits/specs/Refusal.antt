@@ -2,7 +2,7 @@
 --
 --     n when test      n where the test passes, 0 where it fails
 --     a otherwise b    the first of the two that isn't 0: a is checked before b
---     if_none n a b     a where n is 0, b on a refusal
+--     if_none n a b    a where n is 0, b on a refusal
 use Rattle.std.specs.Prelude.{Bool, true, false, ℕ, zero, suc}
 
 infix 30 ◌when◌

@@ -1,17 +1,17 @@
 -- docs/RULES.md, "The printed sheet": an answer record as a line of the sheet. Definitions only.
 --
---     space, newline     what stands behind a number
---     longest_four, longest_two, longest_line    how long the numbers in four and in two bytes with what stands behind them get, and a line of them
---     glyph d            the character of the digit d
---     digits s n         n in decimal, s digits at most
---     decimal n          n in decimal, no zero in front; 0 is "0"
---     field n stop       n in decimal and the character behind it
---     line_of l           the line of the answer record l: id, refusal, firm, worst count, worst offset
---     refused_line        the line of what isn't a whole record, "- 1 0 0 0", refused_long characters
---     placed at a b      b with a put over its part that starts at place `at`; what stands before and behind stays
---     fitting n t out at    t where n bytes fit into `out` from place `at` on, else nothing
---     line_for l out at   the line that goes into `out` at `at`: none if l isn't an answer record or the longest line wouldn't fit
---     Put t b at n a     t was put into b at place `at`: a is what b is then, n the place behind t
+--     space, newline                           what stands behind a number
+--     longest_four, longest_two, longest_line  how long the numbers in four and in two bytes with what stands behind them get, and a line of them
+--     glyph d                                  the character of the digit d
+--     digits s n                               n in decimal, s digits at most
+--     decimal n                                n in decimal, no zero in front; 0 is "0"
+--     field n stop                             n in decimal and the character behind it
+--     line_of l                                the line of the answer record l: id, refusal, firm, worst count, worst offset
+--     refused_line                             the line of what isn't a whole record, "- 1 0 0 0", refused_long characters
+--     placed at a b                            b with a put over its part that starts at place `at`; what stands before and behind stays
+--     fitting n t out at                       t where n bytes fit into `out` from place `at` on, else nothing
+--     line_for l out at                        the line that goes into `out` at `at`: none if l isn't an answer record or the longest line wouldn't fit
+--     Put t b at n a                           t was put into b at place `at`: a is what b is then, n the place behind t
 use Rattle.std.specs.Prelude.{◌≡◌, cond, List, [], ◌∷◌, ◌++◌, ℕ, zero, suc, ◌+◌, ◌*◌, ◌/◌, ◌%◌, eqb, leb, ltb, length, take, drop}
 use Rattle.octets.specs.Octets.{le2, le4, over}
 use Rattle.records.specs.Records.{reply_bytes}

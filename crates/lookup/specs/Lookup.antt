@@ -1,8 +1,8 @@
 -- docs/RULES.md, "Lookup". Definitions only.
 --
---     has l id i       record i of l has that id
+--     has l id i        record i of l has that id
 --     first_of f n i    the first place from i on, of n places, that passes f; i + n where none does
---     place l id       the first record of l with that id; the number of whole records where none has it
+--     place l id        the first record of l with that id; the number of whole records where none has it
 --     looked_up s f id  its bytes, from the site file if it has the id, else from the factory file, else nothing
 use Rattle.std.specs.Prelude.{cond, List, [], ℕ, zero, suc, ◌+◌, ◌*◌, eqb, ltb}
 use Rattle.octets.specs.Octets.{le4}

@@ -4,8 +4,8 @@
 --     place w s c i        where strip i arrives, of those from tick c on, s ticks apart
 --     peak f n             the largest of f 0 to f (n − 1); 0 for n = 0
 --     ranked c t           a count and its tick as one number: larger for the larger count, and of equal ones for the earlier tick
---     most_rank             no rank is larger
---     rank_at m s n c i     the rank of n strips from the place of strip i on
+--     most_rank            no rank is larger
+--     rank_at m s n c i    the rank of n strips from the place of strip i on
 --     Lapped m s n r c l   of a round of r strips from tick c on: how many meet a 1, and the largest rank of n strips from one of their places
 --     members z g c n      how many of the ticks c, c + g, .., n of them, are in the set z
 use Rattle.std.specs.Prelude.{◌≡◌, List, ℕ, zero, suc, ◌+◌, ◌-◌, ◌*◌, ◌%◌, ◌≤◌, ◌<◌, max, length, get_or}

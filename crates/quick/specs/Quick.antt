@@ -1,6 +1,6 @@
 -- docs/RULES.md, "Just yes or no": what is returned, for every byte string. Definitions only.
 --
---     quick_refusal t l    as the question checks them: 1, then all of a task record on a slot buffer
+--     quick_refusal t l   as the question checks them: 1, then all of a task record on a slot buffer
 --     Quick t l n b       a whole call: task t, slots l, refusal number n, and b for firm
 use Rattle.std.specs.Prelude.{◌≡◌, ◌↔◌, Bool, true, false, List, ℕ}
 use Rattle.rules.specs.Worst.{Firm}

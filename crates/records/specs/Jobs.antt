@@ -1,7 +1,7 @@
 -- An accepted job: what its checks have shown of it, and the ticks it has. Definitions only.
 --
 --     job_ticks l j    the ticks that its owner's slots make usable (rule 1)
---     Good l j        the job's part of the slot buffer l is a good table, and its numbers are within the bounds
+--     Good l j         the job's part of the slot buffer l is a good table, and its numbers are within the bounds
 use Rattle.std.specs.Prelude.{◌≡◌, List, ℕ, ◌+◌, ◌/◌, ◌≤◌, ◌<◌, length}
 use Rattle.rules.specs.Sums.{Subset}
 use Rattle.rules.specs.Usable.{usable}

@@ -1,17 +1,17 @@
 -- docs/RULES.md, "Records": task, slot and answer records. Definitions only.
 --
---     task_bytes, slot_bytes, reply_bytes    how long each of them is
---     whole l                      how many whole task records l has; bytes behind the last are ignored
---     part l i                     the bytes of task record i of l
---     task_record l                 the numbers of a task record's bytes
---     slot_at l first i             the numbers of slot record first + i of the slot buffer l
---     slot_of s                     the rules' slot of a slot record
---     owned l first id i           slot record first + i belongs to the task with that id
---     board l first n id           the table of n slot records from `first` on, of which those that belong to id are the painter's
---     board_of r l                  the board that a task record selects, as its owner sees it
---     ticks_of r l                  the ticks that its own slots make usable (rule 1)
---     asked_of r                    the rules' task of a task record
---     answer_bytes id n f c o g     an answer record: id, refusal number, firm 1 or 0, worst count, worst offset, least margin
+--     task_bytes, slot_bytes, reply_bytes  how long each of them is
+--     whole l                              how many whole task records l has; bytes behind the last are ignored
+--     part l i                             the bytes of task record i of l
+--     task_record l                        the numbers of a task record's bytes
+--     slot_at l first i                    the numbers of slot record first + i of the slot buffer l
+--     slot_of s                            the rules' slot of a slot record
+--     owned l first id i                   slot record first + i belongs to the task with that id
+--     board l first n id                   the table of n slot records from `first` on, of which those that belong to id are the painter's
+--     board_of r l                         the board that a task record selects, as its owner sees it
+--     ticks_of r l                         the ticks that its own slots make usable (rule 1)
+--     asked_of r                           the rules' task of a task record
+--     answer_bytes id n f c o g            an answer record: id, refusal number, firm 1 or 0, worst count, worst offset, least margin
 use Rattle.std.specs.Prelude.{List, ◌++◌, ℕ, ◌+◌, ◌*◌, ◌/◌, eqb, ℤ, length, take, drop}
 use Rattle.octets.specs.Octets.{le2, le4, bytes2, bytes4, twos}
 use Rattle.rules.specs.Sums.{Subset}

@@ -1,6 +1,6 @@
 -- docs/RULES.md, the table of refusals 1 to 11 and 14 to 19, and the one order in which they are checked. Definitions only.
 --
---     sizes, room, range         1, 2 and 3
+--     sizes, room, range          1, 2 and 3
 --     slot_refusal w b s          15 to 18: what is wrong with slot s behind a slot that ends at b, 0 for nothing
 --     end_before slot i           where the slot before slot i ends, 0 before the first
 --     trouble_at w slot i         what is wrong with slot i of a table
@@ -9,13 +9,13 @@
 --     slots_refusal r l           the same of the table that a task record selects
 --     board_refusal r l           3, 19, 4 and 14 to 18 of it
 --     body_refusal r l            all of a task record on a slot buffer: those of the board, then 6 to 10
---     beyond w x                 11
+--     beyond w x                  11
 --     judge_refusal t l reply     as judging checks them: 1, 2, the body's
 --     point_refusal t l x         as every question at a half tick x checks them: 1, the body's, 11
 --     which_refusal t l           as the question which slot is bad checks them: 1, the board's
---     boarded r l                the wheel of a task record whose table is good, or its refusal
+--     boarded r l                 the wheel of a task record whose table is good, or its refusal
 --     job_of r                    what an accepted task record is turned into
---     checked r l                that, or its refusal
+--     checked r l                 that, or its refusal
 --
 -- The part's first slot has nothing before it: the record in front of `first` isn't the previous slot. Every record of the part is tested,
 -- and the slot before it is the record before it, whoever owns them.

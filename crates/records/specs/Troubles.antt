@@ -1,6 +1,6 @@
 -- docs/RULES.md, "Which slot": the place beside a refusal of a table. Definitions only.
 --
---     about_slot n          the number n is about one slot: 15 to 18
+--     about_slot n         the number n is about one slot: 15 to 18
 --     FirstAt f n x i      of n places, i is the first at which f gives a number, and it gives x there
 --     Placed x f n t       t has the number x and, where that is about one slot, the place of the first bad one; else place 0
 --     TroubleOf r l x t    the same of the table that a task record selects

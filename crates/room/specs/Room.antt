@@ -1,7 +1,7 @@
 -- What the room is asked and what it answers, over runs of usable ticks. Definitions only.
 --
---     most_edges                 the most edges of the runs that the room takes: two a slot
---     few_edges                  up to so many edges the room has smaller arrays
+--     most_edges                the most edges of the runs that the room takes: two a slot
+--     few_edges                 up to so many edges the room has smaller arrays
 --     Lent l w t late map       what the work is lent: runs l of a wheel of w ticks, a task, room for its late runs, a map of the wheel
 --     Doubles n a b c d         arrays to double in on n ticks: a and b of bytes, c and d of 16 bits
 --     Lends n l m a b c d       all that a caller lends for wheels of up to n ticks: l for late runs, m for a map, the others to double in

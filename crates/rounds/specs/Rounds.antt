@@ -2,11 +2,11 @@
 --
 --     one_strip r                        the task record r with one strip, which needn't be painted: 9 and 10 let it pass
 --     rounds_body r l                    all of a task record on a slot buffer: those of one strip, then 9 and 10 by this engine's bound
---     rounds_judge_refusal t l reply      as judging checks them: 1, 2, the body's
---     rounds_point_refusal t l x          as counting checks them: 1, the body's, 11
+--     rounds_judge_refusal t l reply     as judging checks them: 1, 2, the body's
+--     rounds_point_refusal t l x         as counting checks them: 1, the body's, 11
 --     rounds_checked r l                 the job of an accepted task record, or its refusal
---     rounds_counted_at t l x             the drop count from half tick x, 0 beside a refusal
---     RoundsJudged t l reply n after    a whole call: task t, slots l, reply before and after, refusal number n
+--     rounds_counted_at t l x            the drop count from half tick x, 0 beside a refusal
+--     RoundsJudged t l reply n after     a whole call: task t, slots l, reply before and after, refusal number n
 --
 -- The answer is judging's own: `Answered` of crates/judge/specs/Judge.antt has no bound on k.
 use Rattle.std.specs.Prelude.{◌≡◌, ◌⊎◌, List, ℕ, ◌<◌, pos}

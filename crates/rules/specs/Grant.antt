@@ -1,7 +1,7 @@
 -- docs/RULES.md, "Granting slots". Definitions only.
 --
 --     first free j                 the first j free slots in number order; all of them where there are fewer
---     grid_ticks N v loss g         the usable ticks of a wheel of N slots of v ticks, of which those in g are the painter's
+--     grid_ticks N v loss g        the usable ticks of a wheel of N slots of v ticks, of which those in g are the painter's
 --     Granted N v loss free t j    j is the grant: the first j free slots are firm, and no smaller number is
 --     NoChoice N v loss free t     refusal 13: no set of free slots is firm
 use Rattle.std.specs.Prelude.{◌≡◌, true, ◌&&◌, ℕ, ◌*◌, ◌≤◌, ◌<◌, ltb}

@@ -6,7 +6,7 @@
 --     touches w s i      slot i starts where a slot of the painter's ends, also round the end of the wheel
 --     opens w s i        the first tick of slot i that isn't lost
 --     usable w s         the ticks of the painter's slots that aren't lost, in every turn of the wheel; no slots, no ticks
---     table_of l          the table of a list of slots, all the painter's
+--     table_of l         the table of a list of slots, all the painter's
 --     grid N v loss g    N equal slots of v ticks, slot i from i × v to (i + 1) × v, one loss for all; those in the set g are the painter's
 --
 -- A slot that fills the wheel starts where it ends itself. Touching is about the slots, not their ticks: one whose ticks are all lost touches, too.

@@ -3,7 +3,7 @@
 --     Wheel w u          the set u of ticks repeats every w ticks, w at least 1
 --     Worst w u t c o    c is the worst count and o the worst offset in half ticks
 --     Firm u t           no fraction p/q drops more than k − m
---     firm_test t c       rule 7's test on a worst count c
+--     firm_test t c      rule 7's test on a worst count c
 --
 -- p/q is any fraction of a tick, p from 0 without end. k − m is a difference of whole numbers: an accepted task has m at most k.
 use Rattle.std.specs.Prelude.{◌≡◌, Bool, ℕ, ◌+◌, ◌-◌, ◌*◌, ◌≤◌, ◌<◌, leb}

@@ -1,13 +1,13 @@
 -- docs/RULES.md, "The printed sheet": the text that a task file and a slot file give. Definitions only.
 --
---     most_bytes, most_text   the longest file, and the longest sheet
---     Row task slots t      t is the line of a whole task record: the answer that judging writes, in decimal
---     Rows l slots n t      t is the lines of the first n task records of l, one behind the other
---     rest l                the line of a part record at the end of l, or nothing
---     bad l slots           a file is too long, or the slot file isn't whole records
---     Sheet l slots t       t is the whole sheet
---     Filled l slots b n a  the sheet was put over the start of b: a is what b is then, n the sheet's length
---     RowPut, RowsPut       the same of one line at a place, and of the first i lines at the start
+--     most_bytes, most_text  the longest file, and the longest sheet
+--     Row task slots t       t is the line of a whole task record: the answer that judging writes, in decimal
+--     Rows l slots n t       t is the lines of the first n task records of l, one behind the other
+--     rest l                 the line of a part record at the end of l, or nothing
+--     bad l slots            a file is too long, or the slot file isn't whole records
+--     Sheet l slots t        t is the whole sheet
+--     Filled l slots b n a   the sheet was put over the start of b: a is what b is then, n the sheet's length
+--     RowPut, RowsPut        the same of one line at a place, and of the first i lines at the start
 use Rattle.std.specs.Prelude.{◌≡◌, Bool, true, false, not, ◌||◌, cond, List, [], ◌++◌, ℕ, ◌+◌, ◌*◌, ◌/◌, ◌%◌, ◌≤◌, eqb, ltb, length, replicate}
 use Rattle.records.specs.Records.{task_bytes, slot_bytes, reply_bytes, whole, part}
 use Rattle.judge.specs.Judge.{Judged}
