@@ -3,6 +3,7 @@ ghost use Rattle.std.specs.Prelude.{◌≤◌, length};
 
 use crate::{gifts, lend, lookups, print};
 use records::answer::Answer;
+use std::io;
 
 // What stands behind the record in the reply buffer.
 const TAIL: usize = 8;
@@ -10,62 +11,61 @@ const TAIL: usize = 8;
 const REPLY: usize = Answer::BYTES + TAIL;
 
 // From a half tick: the drop count.
-fn count(name: &[u8], task: &[u8], slots: &[u8], offset: u64) {
+fn count(rt: &impl Print, name: &[u8], task: &[u8], slots: &[u8], offset: u64) -> io::Result<()> {
     let r = judge::count(task, slots, offset);
-    print::answer_from(b"count", name, offset, r.number);
-    print::text(b", count ");
-    print::number(r.count as u64);
-    print::text(b"\n");
+    print::answer_from(rt, b"count", name, offset, r.number)?;
+    print::text(rt, b", count ")?;
+    print::number(rt, r.count as u64)?;
+    print::text(rt, b"\n")
 }
 
 // At a half tick: the supply, and the margin.
-fn supply(name: &[u8], task: &[u8], slots: &[u8], offset: u64) {
+fn supply(rt: &impl Print, name: &[u8], task: &[u8], slots: &[u8], offset: u64) -> io::Result<()> {
     let s = judge::supply(task, slots, offset);
-    print::answer_from(b"supply", name, offset, s.number);
-    print::text(b", supply ");
-    print::number(s.supply as u64);
+    print::answer_from(rt, b"supply", name, offset, s.number)?;
+    print::text(rt, b", supply ")?;
+    print::number(rt, s.supply as u64)?;
     let g = judge::margin(task, slots, offset);
-    print::text(b"; margin: refusal ");
-    print::number(g.number as u64);
-    print::text(b", margin ");
-    print::bits(octets::twos(g.margin));
-    print::text(b"\n");
+    print::text(rt, b"; margin: refusal ")?;
+    print::number(rt, g.number as u64)?;
+    print::text(rt, b", margin ")?;
+    print::bits(rt, octets::twos(g.margin))?;
+    print::text(rt, b"\n")
 }
 
 // Which slot is bad, and what about it.
-fn which(name: &[u8], task: &[u8], slots: &[u8]) {
+fn which(rt: &impl Print, name: &[u8], task: &[u8], slots: &[u8]) -> io::Result<()> {
     let t = which::which_slot(task, slots);
-    print::answer(b"which", name, t.number);
-    print::text(b", place ");
-    print::number(t.place as u64);
-    print::text(b"\n");
+    print::answer(rt, b"which", name, t.number)?;
+    print::text(rt, b", place ")?;
+    print::number(rt, t.place as u64)?;
+    print::text(rt, b"\n")
 }
 
 // A word and the number behind it.
-fn field(word: &[u8], value: usize) {
-    print::text(word);
-    print::number(value as u64);
+fn field(rt: &impl Print, word: &[u8], value: usize) -> io::Result<()> {
+    print::text(rt, word)?;
+    print::number(rt, value as u64)
 }
 
 // The numbers of an answer record.
-fn record(reply: &[u8; REPLY]) {
-    field(b"; id ", octets::four(reply, 0));
-    field(b", number ", octets::two(reply, 4));
-    field(b", firm ", octets::two(reply, 6));
-    field(b", worst ", octets::four(reply, 8));
-    field(b" at ", octets::four(reply, 12));
-    print::text(b", margin ");
-    print::bits((octets::four(reply, 16) % 4294967296) as u32);
+fn record(rt: &impl Print, reply: &[u8; REPLY]) -> io::Result<()> {
+    field(rt, b"; id ", octets::four(reply, 0))?;
+    field(rt, b", number ", octets::two(reply, 4))?;
+    field(rt, b", firm ", octets::two(reply, 6))?;
+    field(rt, b", worst ", octets::four(reply, 8))?;
+    field(rt, b" at ", octets::four(reply, 12))?;
+    print::text(rt, b", margin ")?;
+    print::bits(rt, (octets::four(reply, 16) % 4294967296) as u32)
 }
 
 // Whether the bytes behind the record are those that were there.
-fn tail(reply: &[u8; REPLY]) {
+fn tail(rt: &impl Print, reply: &[u8; REPLY]) -> io::Result<()> {
     let before = [170u8; TAIL];
-    let whole = &reply[..];
-    if check::same(&whole[Answer::BYTES..], &before) {
-        print::text(b", tail kept\n");
+    if reply[Answer::BYTES..] == before[..] {
+        print::text(rt, b", tail kept\n")
     } else {
-        print::text(b", tail written\n");
+        print::text(rt, b", tail written\n")
     }
 }
 
@@ -77,49 +77,63 @@ fn judge_into(task: &[u8], slots: &[u8], reply: &mut [u8], lent: usize) -> u32
 }
 
 // Judging, with a reply buffer full of 170.
-fn judge(name: &[u8], task: &[u8], slots: &[u8], lent: usize)
+fn judge(rt: &impl Print, name: &[u8], task: &[u8], slots: &[u8], lent: usize) -> io::Result<()>
     requires { lent ≤ 28 }
 {
     let before = [170u8; REPLY];
     let mut reply = [170u8; REPLY];
     let n = judge_into(task, slots, &mut reply, lent);
-    print::answer(b"judge", name, n);
-    if check::same(&reply, &before) {
-        print::text(b"; reply kept\n");
-        return;
+    print::answer(rt, b"judge", name, n)?;
+    if reply == before {
+        return print::text(rt, b"; reply kept\n");
     }
-    record(&reply);
-    tail(&reply);
+    record(rt, &reply)?;
+    tail(rt, &reply)
 }
 
 // One question. A letter that is none asks nothing.
-fn one(letter: u8, name: &[u8], task: &[u8], slots: &[u8], told: &lend::Told) {
+fn one(
+    rt: &impl Print,
+    letter: u8,
+    name: &[u8],
+    task: &[u8],
+    slots: &[u8],
+    told: &lend::Told,
+) -> io::Result<()> {
     let offset = lend::number(told, b'x');
     match letter {
-        b'j' => judge(name, task, slots, lend::lent(told, b'r', REPLY)),
-        b'c' => count(name, task, slots, offset),
-        b's' => supply(name, task, slots, offset),
-        b'w' => which(name, task, slots),
-        b'g' => gifts::grant(name, told),
-        b'l' => lookups::lookup(lend::number(told, b'i')),
-        _ => {}
+        b'j' => judge(rt, name, task, slots, lend::lent(told, b'r', REPLY)),
+        b'c' => count(rt, name, task, slots, offset),
+        b's' => supply(rt, name, task, slots, offset),
+        b'w' => which(rt, name, task, slots),
+        b'g' => gifts::grant(rt, name, told),
+        b'l' => lookups::lookup(rt, lend::number(told, b'i')),
+        _ => Ok(()),
     }
 }
 
 // Every question, of the same records.
-fn all(asks: &[u8], name: &[u8], task: &[u8], slots: &[u8], told: &lend::Told) {
+fn all(
+    rt: &impl Print,
+    asks: &[u8],
+    name: &[u8],
+    task: &[u8],
+    slots: &[u8],
+    told: &lend::Told,
+) -> io::Result<()> {
     let mut i = 0;
     while i < asks.len() {
-        one(asks[i], name, task, slots, told);
+        one(rt, asks[i], name, task, slots, told)?;
         i += 1;
     }
+    Ok(())
 }
 
 // The records of what is told, and every question of them.
-pub fn each(asks: &[u8], name: &[u8], told: &lend::Told) {
+pub fn each(rt: &impl Print, asks: &[u8], name: &[u8], told: &lend::Told) -> io::Result<()> {
     let task = lend::task(told);
     let slots = lend::slots(told);
     let t = lend::lent(told, b't', lend::ROOM);
     let y = lend::lent(told, b'y', lend::ROOM);
-    all(asks, name, &task[0..t], &slots[0..y], told);
+    all(rt, asks, name, &task[0..t], &slots[0..y], told)
 }

@@ -1,16 +1,18 @@
 // Grants: the numbers that came back, and the marks before and after.
 use crate::{lend, print};
+use std::io;
 
-fn mark_is(mark: u8) {
-    print::number(mark as u64);
+fn mark_is(rt: &impl Print, mark: u8) -> io::Result<()> {
+    print::number(rt, mark as u64)
 }
 
-fn marks_are(marks: &[u8]) {
+fn marks_are(rt: &impl Print, marks: &[u8]) -> io::Result<()> {
     let mut i = 0;
     while i < marks.len() {
-        mark_is(marks[i]);
+        mark_is(rt, marks[i])?;
         i += 1;
     }
+    Ok(())
 }
 
 fn mark(told: u64) -> u8 {
@@ -28,25 +30,25 @@ fn marks_of(told: &lend::Told) -> [u8; lend::FIRST] {
     marks
 }
 
-fn asked(name: &[u8], marks: &[u8]) {
-    print::text(b"grant");
-    print::text(name);
-    print::text(b", marks ");
-    marks_are(marks);
+fn asked(rt: &impl Print, name: &[u8], marks: &[u8]) -> io::Result<()> {
+    print::text(rt, b"grant")?;
+    print::text(rt, name)?;
+    print::text(rt, b", marks ")?;
+    marks_are(rt, marks)
 }
 
-fn answered(number: u32, slots: u32, marks: &[u8]) {
-    print::text(b": refusal ");
-    print::number(number as u64);
-    print::text(b", slots ");
-    print::number(slots as u64);
-    print::text(b", marks ");
-    marks_are(marks);
-    print::text(b"\n");
+fn answered(rt: &impl Print, number: u32, slots: u32, marks: &[u8]) -> io::Result<()> {
+    print::text(rt, b": refusal ")?;
+    print::number(rt, number as u64)?;
+    print::text(rt, b", slots ")?;
+    print::number(rt, slots as u64)?;
+    print::text(rt, b", marks ")?;
+    marks_are(rt, marks)?;
+    print::text(rt, b"\n")
 }
 
-fn granted(name: &[u8], marks: &mut [u8], told: &lend::Told) {
-    asked(name, marks);
+fn granted(rt: &impl Print, name: &[u8], marks: &mut [u8], told: &lend::Told) -> io::Result<()> {
+    asked(rt, name, marks)?;
     let r = grants::grant(
         marks,
         lend::number(told, b'v'),
@@ -57,12 +59,12 @@ fn granted(name: &[u8], marks: &mut [u8], told: &lend::Told) {
         lend::number(told, b'm'),
         lend::number(told, b'k'),
     );
-    answered(r.number, r.slots, marks);
+    answered(rt, r.number, r.slots, marks)
 }
 
 // A grant of the slots whose marks are told.
-pub fn grant(name: &[u8], told: &lend::Told) {
+pub fn grant(rt: &impl Print, name: &[u8], told: &lend::Told) -> io::Result<()> {
     let mut marks = marks_of(told);
     let n = lend::lent(told, b' ', lend::FIRST);
-    granted(name, &mut marks[0..n], told);
+    granted(rt, name, &mut marks[0..n], told)
 }

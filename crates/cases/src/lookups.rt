@@ -1,6 +1,7 @@
 // Lookup on records whose bytes behind the id say where they stand.
 use crate::print;
 use records::TaskRecord;
+use std::io;
 
 // The site file ends in 20 bytes of a record.
 fn site() -> [u8; 2 * TaskRecord::BYTES + 20] {
@@ -11,25 +12,26 @@ fn factory() -> [u8; 2 * TaskRecord::BYTES] {
     *b"\x01\0\0\0the factory's record of id 1\x02\0\0\0the factory's record of id 2"
 }
 
-fn found(id: u64, part: &[u8]) {
-    print::text(b"lookup ");
-    print::number(id);
-    print::text(b": ");
-    print::number(part.len() as u64);
-    print::text(b" bytes");
+fn found(rt: &impl Print, id: u64, part: &[u8]) -> io::Result<()> {
+    print::text(rt, b"lookup ")?;
+    print::number(rt, id)?;
+    print::text(rt, b": ")?;
+    print::number(rt, part.len() as u64)?;
+    print::text(rt, b" bytes")?;
     if part.len() == TaskRecord::BYTES {
-        print::text(b", ");
-        print::text(&part[4..]);
+        print::text(rt, b", ")?;
+        print::text(rt, &part[4..])?;
     }
-    print::text(b"\n");
+    print::text(rt, b"\n")
 }
 
 // Both files have 1, only the factory file has 2, and a part record alone has 3.
-pub fn lookup(id: u64) {
+pub fn lookup(rt: &impl Print, id: u64) -> io::Result<()> {
     let site = site();
     let factory = factory();
     found(
+        rt,
         id,
         lookup::lookup(&site, &factory, (id % 4294967296) as u32),
-    );
+    )
 }

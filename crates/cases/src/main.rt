@@ -1,3 +1,5 @@
+#![tactic(auto)]
+
 // The cases of docs/RULES.md through the public calls. Standard input has the cases, and the stored output says what must come back.
 //
 // A case is a line. It begins with a letter for each question: j judging, c counting, s supply and margin, w which slot is bad, g granting,
@@ -15,8 +17,10 @@ mod lookups;
 mod print;
 mod read;
 
-fn main() {
+use std::io;
+
+fn main(rt: HostRuntime) -> io::Result<()> {
     let mut text = [0u8; 8192];
-    let n = io::read_full(libc::STDIN_FILENO, &mut text);
-    read::cases(&text[..n]);
+    let n = read::fill(&mut rt.reader(), &mut text)?;
+    read::cases(&rt, &text[..n])
 }

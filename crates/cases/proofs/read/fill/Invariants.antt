@@ -1,0 +1,10 @@
+-- `cases::read::fill` meets its contract and ends. The loop's invariant: `done` is at most the buffer's length. The measure is what is
+-- left of the buffer. Assumes nothing.
+use Rattle.std.proofs.Common.{◌-◌, ◌≤◌, length}
+use Rattle.cases.proofs.read.fill.Given as goal
+
+abbrev pub invariant-loop-done : goal.invariant-loop-done
+invariant-loop-done g l = l.done ≤ length l.buf
+
+abbrev pub decreases-loop-done : goal.decreases-loop-done
+decreases-loop-done g l = length l.initial.buf - l.done
