@@ -55,7 +55,7 @@ pub fn judge_in(
     here: &mut [u16],
     there: &mut [u16],
 ) -> u32
-    requires slots_value { (sizes task.now slots.now ≡ 0) × (reply_bytes ≤ length reply.old) × (length runs.old ≡ most_edges) }
+    requires sizes { (sizes task.now slots.now ≡ 0) × (reply_bytes ≤ length reply.old) × (length runs.old ≡ most_edges) }
     requires lends { (task_record task.now).w ≤ most_ticks → Lends (task_record task.now).w late.old map.old low.old spare.old here.old there.old }
     ensures { Judged task.now slots.now reply.old result reply.new }
 {

@@ -1,3 +1,5 @@
+#![tactic(auto)]
+
 // A walk along the task records of a site: each is judged by itself, and its answer goes into its own place of the reply.
 mod lent;
 mod sizes;

@@ -52,8 +52,8 @@ fn one(
     here: &mut [u16],
     there: &mut [u16],
 )
-    requires i_bound { (i < whole tasks.now) × Roomy tasks.now slots.now reply.old × Fitting tasks.now (length map.old) }
-    requires runs_len { (length runs.old ≡ most_edges) × Lends (length map.old) late.old map.old low.old spare.old here.old there.old }
+    requires placed { (i < whole tasks.now) × Roomy tasks.now slots.now reply.old × Fitting tasks.now (length map.old) }
+    requires lends { (length runs.old ≡ most_edges) × Lends (length map.old) late.old map.old low.old spare.old here.old there.old }
     ensures { Placed tasks.now slots.now reply.old i reply.new }
 {
     let from = TaskRecord::BYTES * i;
@@ -88,7 +88,7 @@ pub fn each(
     there: &mut [u16],
 )
     requires roomy { Roomy tasks.now slots.now reply.old × Fitting tasks.now (length map.old) }
-    requires runs_len { (length runs.old ≡ most_edges) × Lends (length map.old) late.old map.old low.old spare.old here.old there.old }
+    requires lends { (length runs.old ≡ most_edges) × Lends (length map.old) late.old map.old low.old spare.old here.old there.old }
     ensures { Walked tasks.now slots.now reply.old (whole tasks.now) reply.new }
 {
     let n = tasks.len() / TaskRecord::BYTES;
