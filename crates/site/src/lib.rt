@@ -1,3 +1,5 @@
+#![tactic(auto)]
+
 // A whole site in one call: every task record is judged by itself, and its answer goes into its own place of the reply.
 ghost use Rattle.std.specs.Prelude.{◌≡◌};
 ghost use Rattle.site.specs.Site.{site_sizes, Sited};
