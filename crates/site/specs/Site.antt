@@ -1,7 +1,7 @@
 -- docs/RULES.md, "A whole site": what a call returns and what the reply holds afterwards, for every byte string. Definitions only.
 --
---     site_sizes, site_room              1 and 2
---     site_refusal tasks slots reply    the first of them that applies, 0 for none
+--     site_sizes, site_room            1 and 2
+--     site_refusal tasks slots reply   the first of them that applies, 0 for none
 --     Sited t l reply n after          a whole call: tasks t, slots l, reply before and after, refusal number n; each record was judged by
 --                                      itself, on its own place of the reply (JudgedAt in crates/walk/specs/Walk.antt)
 --     joined f n                       n lists in order, one behind the other
