@@ -1,4 +1,4 @@
--- `ticks::span`: a turn and the ticks behind it, or no tick at all (proofs/Spans.antt).
+-- `ticks::span`: a turn and the ticks behind it (proofs/Spans.antt).
 use Rattle.std.proofs.Common.{arith}
 use Rattle.ticks.proofs.Spans.{span-turn}
 use Rattle.ticks.proofs.span.Goals as goal
