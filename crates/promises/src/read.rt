@@ -150,8 +150,8 @@ pub fn quick(task: &[u8], slots: &[u8]) -> Verdict
 // Both calls on one task: the verdict is the bit that judging writes, and the refusals are the same.
 pub fn both(task: &[u8], slots: &[u8], reply: &mut [u8]) -> Pairing
     requires { reply_bytes ≤ length reply.old }
-    ensures number_value { result.judged.number ≡ result.verdict.number }
-    ensures firm_value { (result.verdict.number ≡ 1 → ⊥) → result.judged.firm ≡ bit result.verdict.firm }
+    ensures same_number { result.judged.number ≡ result.verdict.number }
+    ensures same_verdict { (result.verdict.number ≡ 1 → ⊥) → result.judged.firm ≡ bit result.verdict.firm }
 {
     let judged = judge(task, slots, reply);
     let verdict = quick(task, slots);

@@ -1,0 +1,7 @@
+-- The same slots give the same number and reply (proofs/Boards.antt).
+use Rattle.promises.proofs.Boards.{rounds-are-silent}
+use Rattle.promises.proofs.others.rounds_judge.Goals as goal
+
+pub returns : goal.returns
+returns c =
+    (rounds-are-silent _ _ _ _ c.requires.0 c.requires.1).judged _ _ _ _ _ (rw c.requires.2 at c.fiddlequill_rounds_judge.ensures) c.fiddlequill_rounds_judge-2.ensures
