@@ -1,9 +1,9 @@
 -- docs/RULES.md, "One table for the board": what other owners' slots mean for a task. Definitions only: the last six names are statements,
 -- shown in proofs/Boards.antt.
 --
---     asked_bytes              the bytes of a task record before first and count
---     own_slots l first id n   the slots of id among n slot records from `first` on, in their order
---     slots_of r l             the slots that a task record's owner has on its board
+--     asked_bytes             the bytes of a task record before first and count
+--     own_slots l first id n  the slots of id among n slot records from `first` on, in their order
+--     slots_of r l            the slots that a task record's owner has on its board
 --     Twins t l t' l'         two task records on their boards: both tables are accepted, and the records differ in first and count only
 --     SameTicks t l t' l'     both have the same usable ticks
 --     SameSlots t l t' l'     both have the same slots

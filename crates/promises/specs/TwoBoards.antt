@@ -1,7 +1,7 @@
 -- docs/RULES.md, "One table for the board", by an example: the sheet's first task, a painter, on two boards that differ in all but its own slots.
 -- Definitions only: the last name is a statement, shown in proofs/TwoBoards.antt.
 --
---     slot_record a b o       the bytes of a slot record from a to b with owner o
+--     slot_record a b o      the bytes of a slot record from a to b with owner o
 --     painter first count    the bytes of P11's task, with id 1
 --     one                    a buffer of five records, all the painter's board: the clock (2) twice, the chime (3) between the painter's slots
 --     two                    a buffer of seven records, the painter's board from the third on: records 0 and 1 are of another board

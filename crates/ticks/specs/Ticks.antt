@@ -2,12 +2,12 @@
 --
 --     Span l n from to step r l'    the first n entries of l have come to `from`, the first r of l' go on to `to`, the ticks between as step says
 --     Slotted l n at from to r l'   the same of the ticks up to `from`, not usable, and those from there to `to`, usable; of these there may be none
---     met_first w s n                where the wheel's first slot is met as the wheel turns: at 0 where the last of n slots is the painter's and ends
+--     met_first w s n               where the wheel's first slot is met as the wheel turns: at 0 where the last of n slots is the painter's and ends
 --                                   at w, else at w, where no slot starts
---     met_at w s i                   where slot i is met: at the end of the painter's last slot before it, the wheel's turn included
---     opens_at start loss met        the first tick of a slot that isn't lost
+--     met_at w s i                  where slot i is met: at the end of the painter's last slot before it, the wheel's turn included
+--     opens_at start loss met       the first tick of a slot that isn't lost
 --     Fits l first n w runs         what laying a board out is handed: a good table of n slots on a wheel of w ticks, room for two edges each
---     free_of l                      the free slots of a mark buffer: those with mark 1
+--     free_of l                     the free slots of a mark buffer: those with mark 1
 --     GivenRow l i seen j k         from slot i to slot k, which isn't among them, all are free and among the first j, with `seen` before slot i
 --     WholeRow l i seen j k         the same, and slot k, if there is one, isn't granted
 --     Past k n r                    r is past slot k of n slots, if there is one
