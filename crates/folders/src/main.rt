@@ -5,7 +5,7 @@ use std::io;
 use std::rt::Files;
 
 // The folder's name, then its sheet.
-fn folder(rt: &(impl Files + Print), name: &str, tasks: &str, slots: &str) -> io::Result<()> {
+fn folder(rt: &(impl Files + Print), name: &str, tasks: &[u8], slots: &[u8]) -> io::Result<()> {
     rt.print(name)?;
     sheets::print(rt, tasks, slots)?;
     Ok(())
@@ -16,44 +16,44 @@ fn good(rt: &(impl Files + Print)) -> io::Result<()> {
     folder(
         rt,
         "good-example\n",
-        "good-example/tasks.bin",
-        "good-example/slots.bin",
+        b"good-example/tasks.bin",
+        b"good-example/slots.bin",
     )?;
     folder(
         rt,
         "good-no-tasks\n",
-        "good-no-tasks/tasks.bin",
-        "good-no-tasks/slots.bin",
+        b"good-no-tasks/tasks.bin",
+        b"good-no-tasks/slots.bin",
     )?;
     folder(
         rt,
         "good-both-empty\n",
-        "good-both-empty/tasks.bin",
-        "good-both-empty/slots.bin",
+        b"good-both-empty/tasks.bin",
+        b"good-both-empty/slots.bin",
     )?;
     folder(
         rt,
         "good-part-alone\n",
-        "good-part-alone/tasks.bin",
-        "good-part-alone/slots.bin",
+        b"good-part-alone/tasks.bin",
+        b"good-part-alone/slots.bin",
     )?;
     folder(
         rt,
         "good-part-behind\n",
-        "good-part-behind/tasks.bin",
-        "good-part-behind/slots.bin",
+        b"good-part-behind/tasks.bin",
+        b"good-part-behind/slots.bin",
     )?;
     folder(
         rt,
         "good-longest-tasks\n",
-        "good-longest-tasks/tasks.bin",
-        "good-longest-tasks/slots.bin",
+        b"good-longest-tasks/tasks.bin",
+        b"good-longest-tasks/slots.bin",
     )?;
     folder(
         rt,
         "good-longest-slots\n",
-        "good-longest-slots/tasks.bin",
-        "good-longest-slots/slots.bin",
+        b"good-longest-slots/tasks.bin",
+        b"good-longest-slots/slots.bin",
     )?;
     Ok(())
 }
@@ -63,38 +63,38 @@ fn bad(rt: &(impl Files + Print)) -> io::Result<()> {
     folder(
         rt,
         "bad-tasks-missing\n",
-        "bad-tasks-missing/tasks.bin",
-        "bad-tasks-missing/slots.bin",
+        b"bad-tasks-missing/tasks.bin",
+        b"bad-tasks-missing/slots.bin",
     )?;
     folder(
         rt,
         "bad-slots-missing\n",
-        "bad-slots-missing/tasks.bin",
-        "bad-slots-missing/slots.bin",
+        b"bad-slots-missing/tasks.bin",
+        b"bad-slots-missing/slots.bin",
     )?;
     folder(
         rt,
         "bad-tasks-too-long\n",
-        "bad-tasks-too-long/tasks.bin",
-        "bad-tasks-too-long/slots.bin",
+        b"bad-tasks-too-long/tasks.bin",
+        b"bad-tasks-too-long/slots.bin",
     )?;
     folder(
         rt,
         "bad-slots-too-long\n",
-        "bad-slots-too-long/tasks.bin",
-        "bad-slots-too-long/slots.bin",
+        b"bad-slots-too-long/tasks.bin",
+        b"bad-slots-too-long/slots.bin",
     )?;
     folder(
         rt,
         "bad-slots-full\n",
-        "bad-slots-full/tasks.bin",
-        "bad-slots-full/slots.bin",
+        b"bad-slots-full/tasks.bin",
+        b"bad-slots-full/slots.bin",
     )?;
     folder(
         rt,
         "bad-slots-part\n",
-        "bad-slots-part/tasks.bin",
-        "bad-slots-part/slots.bin",
+        b"bad-slots-part/tasks.bin",
+        b"bad-slots-part/slots.bin",
     )?;
     Ok(())
 }
@@ -104,14 +104,14 @@ fn unreadable(rt: &(impl Files + Print)) -> io::Result<()> {
     folder(
         rt,
         "bad-tasks-folder\n",
-        "bad-tasks-folder/tasks.bin",
-        "bad-tasks-folder/slots.bin",
+        b"bad-tasks-folder/tasks.bin",
+        b"bad-tasks-folder/slots.bin",
     )?;
     folder(
         rt,
         "bad-slots-folder\n",
-        "bad-slots-folder/tasks.bin",
-        "bad-slots-folder/slots.bin",
+        b"bad-slots-folder/tasks.bin",
+        b"bad-slots-folder/slots.bin",
     )?;
     Ok(())
 }

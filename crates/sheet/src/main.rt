@@ -4,6 +4,6 @@
 use std::io;
 
 fn main(rt: HostRuntime) -> io::Result<()> {
-    sheets::print(&rt, "tasks.bin", "slots.bin")?;
+    sheets::print(&rt, b"tasks.bin", b"slots.bin")?;
     Ok(())
 }

@@ -98,18 +98,21 @@ fn load(rt: &impl Files, path: &str, buf: &mut [u8]) -> io::Result<usize>
 }
 
 // Reads a file and answers its length. A missing, too long or unreadable one counts as filling the buffer, which has a byte more than a
-// file may have, so that each leaves the one line alone.
-fn read(rt: &impl Files, path: &str, buf: &mut [u8]) -> usize
+// file may have, so that each leaves the one line alone. So does a name that isn't text: the library opens no other.
+fn read(rt: &impl Files, path: &[u8], buf: &mut [u8]) -> usize
     ensures { IsPrefixLen result buf.new }
 {
-    match load(rt, path, buf) {
+    let Ok(name) = str::from_utf8(path) else {
+        return buf.len();
+    };
+    match load(rt, name, buf) {
         Ok(n) => n,
         Err(_) => buf.len(),
     }
 }
 
 // Prints the sheet of two files, in one write, and answers how many bytes it has.
-pub fn print(rt: &(impl Files + Print), tasks: &str, slots: &str) -> io::Result<usize>
+pub fn print(rt: &(impl Files + Print), tasks: &[u8], slots: &[u8]) -> io::Result<usize>
     ensures { IfOk result (λ n. n ≤ most_text) }
 {
     let mut task_file = [0u8; MOST_BYTES + 1];
