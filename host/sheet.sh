@@ -52,6 +52,6 @@ if [ ! -e "$site/tasks.bin" ] && { [ -e "$site/tasks.csv" ] || [ -e "$site/slots
 elif has_both bin; then
     tell_lengths
 fi
-# The program has no exit status to say that its sheet couldn't be printed.
+# What the program prints goes through here, so that it is said where the sheet couldn't be printed.
 printed=$(CDPATH='' cd -- "$folder" && "$sheet")
 [ -z "$printed" ] || printf '%s\n' "$printed" || { echo "make sheet: standard output: can't be written" >&2; exit 1; }
