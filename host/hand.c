@@ -353,7 +353,7 @@ static const struct hand_task tasks[] = {
 static const struct hand_task long_tasks[] = {
     {"T with 1,023 strips: 204 rounds and three strips", T_MK(1, 1023), T_SLOT, 0, 1, 614, 1, -1},
     {"T with 1,024 strips: 204 rounds and four", T_MK(1, 1024), T_SLOT, 0, 1, 615, 9, -1},
-    {"k 1,025 is refusal 9, and by whole rounds 205 of them", T_MK(1, 1025), T_SLOT, 0, 1, 615, 1, -1},
+    {"k 1,025 is refusal 9", T_MK(1, 1025), T_SLOT, 0, 1, 615, 1, -1},
     {"T with 1,026 strips: 205 rounds and one", T_MK(1, 1026), T_SLOT, 0, 1, 616, 9, -1},
     {"T with 999,999 strips: 199,999 rounds and four", T_MK(1, 999999), T_SLOT, 0, 1, 600000, 9, -1},
     {"T with 1,000,000 strips, 600,000 may drop", T_MK(400000, 1000000), T_SLOT, 0, 1, 600000, 1, -1},
@@ -544,7 +544,7 @@ static const struct hand_long long_counts[] = {
 
 /* Each is judged, and counted from its offset. Offset 20 is refused by T itself: it shows what comes before 11. */
 static const struct hand_long_refusal long_refusals[] = {
-    {"k 1,025 is refusal 9, and m 1,026 is 10", T_MK(1026, 1025), T_SLOT, 20, 9, 10},
+    {"k 1,025 is refusal 9 at a half tick", T_MK(1026, 1025), T_SLOT, 20, 9, 10},
     {"k 1,000,000 is refusal 9, and m 1,000,001 is 10", T_MK(1000001, 1000000), T_SLOT, 9, 9, 10},
     {"k 1,000,000 is refusal 9, and m 1,000,001 is 10 before 11", T_MK(1000001, 1000000), T_SLOT, 20, 9, 10},
     {"k 1,000,000 is refusal 9, and m 2^32 - 1 is 10", T_MK(UINT32_MAX, 1000000), T_SLOT, 9, 9, 10},

@@ -511,7 +511,7 @@ static inline const char *fiddlequill_meaning(uint32_t number)
     case FIDDLEQUILL_BAD_DEADLINE:
         return "the deadline D isn't from 1 to h ticks";
     case FIDDLEQUILL_BAD_STRIPS:
-        return "the number of strips k isn't from 1 to 1,024 (by whole rounds: to 1,000,000)";
+        return "the number of strips k isn't from 1 to 1,024";
     case FIDDLEQUILL_BAD_PAINTED:
         return "m asks for more painted strips than k";
     case FIDDLEQUILL_BEYOND_WHEEL:
