@@ -1,6 +1,6 @@
 #!/bin/sh
-# Sees that what docs/MAP.md names exists, and that each must-fail edit, each law and each call of the C header stands in it. Every name there is
-# in backquotes, in one of these forms:
+# Sees that what docs/MAP.md names exists, that each must-fail edit, each law and each call of the C header stands in it, and that each export for C
+# promises what its namesake in the library does. Every name in the map is in backquotes, in one of these forms:
 #   crate/File.name, crate/File.record.field   a public definition in crates/crate/specs/File.antt; a law must be shown in crates/crate/proofs
 #   crate::function, crate::module::function   a function in crates/crate/src/lib.rt, or in module.rt there
 #   Kind::CONSTANT, Kind::function             a constant or a function in the kind's own impl
@@ -34,6 +34,11 @@ field() { # CRATE FILE RECORD FIELD
 function() { # CRATE[::MODULE] NAME
     case $1 in *::*) file=crates/${1%%::*}/src/${1#*::}.rt ;; *) file=crates/$1/src/lib.rt ;; esac
     [ -f "$file" ] && grep -qE "^(pub )?(extern \"C\" )?fn $2[(<]" "$file"
+}
+
+# A call's parameters, result and clauses, without what makes it an export.
+promise() { # CRATE NAME
+    sed -n "/^pub .*fn $2(/,/^{/p" "crates/$1/src/lib.rt" | sed 's/^pub extern "C" fn /pub fn /'
 }
 
 of_kind() { # KIND NAME
@@ -93,7 +98,8 @@ for file in crates/*/specs/*.antt; do
     done
 done
 for call in $(grep -ohE 'extern "C" fn [a-z_]+' crates/fiddlequill_c/src/lib.rt | sed 's/.* //'); do
-    grep -qE "^pub fn $call\\(" crates/fiddlequill/src/lib.rt || wrong "the library hasn't the call $call"
+    [ -n "$(promise fiddlequill "$call")" ] && [ "$(promise fiddlequill "$call")" = "$(promise fiddlequill_c "$call")" ] ||
+        wrong "the export $call doesn't promise what the library's call does"
     grep -qF "\`fiddlequill::$call\`" "$map" || wrong "$map has no row for the call $call"
     grep -qE "^uint(32|64)_t $call\\(" include/fiddlequill.h || wrong "the header hasn't the call $call"
 done

@@ -1,6 +1,7 @@
 #![tactic(auto)]
 
-// What the desk asks, each answer in one number as C takes it; fiddlequill_c exports these calls. Every call takes any bytes and any 64-bit numbers; a number that doesn't fit is refused by its bound.
+// What the desk's C program calls; fiddlequill_c exports it. Every call takes any bytes and any 64-bit numbers; a number that doesn't fit is refused
+// by its bound.
 ghost use Rattle.std.specs.Prelude.{◌≡◌};
 ghost use Rattle.rules.specs.Sums.{bit};
 ghost use Rattle.records.specs.Refusals.{point_refusal};
