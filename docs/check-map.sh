@@ -4,6 +4,8 @@
 #   crate/File.name, crate/File.record.field   a public definition in crates/crate/specs/File.antt; a law must be shown in crates/crate/proofs
 #   crate::function, crate::module::function   a function in crates/crate/src/lib.rt, or in module.rt there
 #   Kind::CONSTANT, Kind::function             a constant or a function in the kind's own impl
+#   crate::Kind::function                      the same in crates/crate alone
+#   crate::Kind                                a type of crates/crate
 #   edit crate/label                           a must-fail edit
 #   case words                                 a line of crates/cases/stdout, up to a comma or a colon; one word: a kind of line
 #   a/path                                     a file or folder
@@ -41,10 +43,10 @@ promise() { # CRATE NAME
     sed -n "/^pub .*fn $2(/,/^{/p" "crates/$1/src/lib.rt" | sed 's/^pub extern "C" fn /pub fn /'
 }
 
-of_kind() { # KIND NAME
-    awk -v kind="$1" -v name="$2" '/^[^ ]/ { inside = $1 == "impl" && $2 == kind }
-        inside && $0 ~ "(const|fn) " name "[:(]" { found = 1 }
-        END { exit !found }' crates/*/src/*.rt
+of_kind() { # KIND NAME [CRATE]
+    awk -v kind="$1" -v name="$2" '/^[^ ]/ { sub(/^impl<[^>]*> /, "impl "); sub(/<.*/, "", $2); inside = $1 == "impl" && $2 == kind }
+        inside && $0 ~ "(const|fn) " name "[:(<]" { found = 1 }
+        END { exit !found }' crates/${3:-*}/src/*.rt
 }
 
 case_line() { # WORDS
@@ -57,6 +59,8 @@ known() { # TOKEN
     case $1 in
     'edit '*) name=${1#edit }; [ -f "crates/${name%%/*}/must-fail/${name#*/}.edit" ] ;;
     'case '*) case_line "${1#case }" ;;
+    [a-z]*::[A-Z]*::*) name=${1#*::}; of_kind "${name%%::*}" "${name##*::}" "${1%%::*}" ;;
+    [a-z]*::[A-Z]*) grep -qE "^pub (struct|enum|trait) ${1##*::}\\b" crates/"${1%%::*}"/src/*.rt ;;
     [a-z]*::*) function "${1%::*}" "${1##*::}" ;;
     [A-Z]*::*) of_kind "${1%%::*}" "${1##*::}" ;;
     [a-z]*/[A-Z]*.*.*) [ -e "$1" ] || { name=${1#*/}; rest=${name#*.}; field "${1%%/*}" "${name%%.*}" "${rest%%.*}" "${rest#*.}"; } ;;

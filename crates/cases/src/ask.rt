@@ -1,8 +1,11 @@
 // The questions, and a line with all that came back.
-ghost use Rattle.std.specs.Prelude.{◌≤◌, length};
+ghost use Rattle.std.specs.Prelude.{◌≤◌};
 
-use crate::{gifts, lend, lookups, print};
+use crate::told::Told;
+use crate::{gifts, lookups};
+use limits::Refusal;
 use records::answer::Answer;
+use std::fmt::Display;
 use std::io;
 
 // What stands behind the record in the reply buffer.
@@ -10,130 +13,119 @@ const TAIL: usize = 8;
 
 const REPLY: usize = Answer::BYTES + TAIL;
 
-// From a half tick: the drop count.
-fn count(rt: &impl Print, name: &[u8], task: &[u8], slots: &[u8], offset: u64) -> io::Result<()> {
-    let r = judge::count(task, slots, offset);
-    print::answer_from(rt, b"count", name, offset, r.number)?;
-    print::text(rt, b", count ")?;
-    print::number(rt, r.count as u64)?;
-    print::text(rt, b"\n")
+// A case's name and what is lent to its questions.
+#[derive(Drop)]
+pub struct Case<'a> {
+    pub name: &'a [u8],
+    pub task: &'a [u8],
+    pub slots: &'a [u8],
+    pub told: &'a Told,
 }
 
-// At a half tick: the supply, and the margin.
-fn supply(rt: &impl Print, name: &[u8], task: &[u8], slots: &[u8], offset: u64) -> io::Result<()> {
-    let s = judge::supply(task, slots, offset);
-    print::answer_from(rt, b"supply", name, offset, s.number)?;
-    print::text(rt, b", supply ")?;
-    print::number(rt, s.supply as u64)?;
-    let g = judge::margin(task, slots, offset);
-    print::text(rt, b"; margin: refusal ")?;
-    print::number(rt, g.number as u64)?;
-    print::text(rt, b", margin ")?;
-    print::bits(rt, octets::twos(g.margin))?;
-    print::text(rt, b"\n")
+// What was asked, of which task. A name is bytes.
+pub fn asked(rt: &impl Print, question: &str, name: &[u8]) -> io::Result<()> {
+    rt.print(question)?;
+    rt.write_all(name)
 }
 
-// Which slot is bad, and what about it.
-fn which(rt: &impl Print, name: &[u8], task: &[u8], slots: &[u8]) -> io::Result<()> {
-    let t = which::which_slot(task, slots);
-    print::answer(rt, b"which", name, t.number)?;
-    print::text(rt, b", place ")?;
-    print::number(rt, t.place as u64)?;
-    print::text(rt, b"\n")
-}
-
-// A word and the number behind it.
-fn field(rt: &impl Print, word: &[u8], value: usize) -> io::Result<()> {
-    print::text(rt, word)?;
-    print::number(rt, value as u64)
+// The refusal that came back, and the value, 0 beside a refusal.
+pub fn answered(
+    rt: &impl Print,
+    word: &str,
+    answer: Result<impl Display + Drop, Refusal>,
+) -> io::Result<()> {
+    match answer {
+        Ok(value) => print!(rt; "refusal 0, {word} {value}"),
+        Err(bad) => print!(rt; "refusal {}, {word} 0", bad.number()),
+    }
 }
 
 // The numbers of an answer record.
 fn record(rt: &impl Print, reply: &[u8; REPLY]) -> io::Result<()> {
-    field(rt, b"; id ", octets::four(reply, 0))?;
-    field(rt, b", number ", octets::two(reply, 4))?;
-    field(rt, b", firm ", octets::two(reply, 6))?;
-    field(rt, b", worst ", octets::four(reply, 8))?;
-    field(rt, b" at ", octets::four(reply, 12))?;
-    print::text(rt, b", margin ")?;
-    print::bits(rt, (octets::four(reply, 16) % 4294967296) as u32)
+    let id = octets::four(reply, 0);
+    let number = octets::two(reply, 4);
+    let firm = octets::two(reply, 6);
+    let drops = octets::four(reply, 8);
+    let offset = octets::four(reply, 12);
+    let margin = i32::from_le_bytes([reply[16], reply[17], reply[18], reply[19]]);
+    print!(rt;
+        "; id {id}, number {number}, firm {firm}, worst {drops} at {offset}, margin {margin}"
+    )
 }
 
-// Whether the bytes behind the record are those that were there.
-fn tail(rt: &impl Print, reply: &[u8; REPLY]) -> io::Result<()> {
-    let before = [170u8; TAIL];
-    if reply[Answer::BYTES..] == before[..] {
-        print::text(rt, b", tail kept\n")
-    } else {
-        print::text(rt, b", tail written\n")
+impl Case<'_> {
+    // From a half tick: the drop count.
+    fn count(&self, rt: &impl Print, offset: u64) -> io::Result<()> {
+        asked(rt, "count", self.name)?;
+        print!(rt; " from {offset}: ")?;
+        answered(rt, "count", judge::count(self.task, self.slots, offset))?;
+        rt.print("\n")
     }
-}
 
-// Judging into the first bytes of a reply buffer.
-fn judge_into(task: &[u8], slots: &[u8], reply: &mut [u8], lent: usize) -> u32
-    requires { lent ≤ length reply.old }
-{
-    judge::judge(task, slots, &mut reply[0..lent])
-}
-
-// Judging, with a reply buffer full of 170.
-fn judge(rt: &impl Print, name: &[u8], task: &[u8], slots: &[u8], lent: usize) -> io::Result<()>
-    requires { lent ≤ 28 }
-{
-    let before = [170u8; REPLY];
-    let mut reply = [170u8; REPLY];
-    let n = judge_into(task, slots, &mut reply, lent);
-    print::answer(rt, b"judge", name, n)?;
-    if reply == before {
-        return print::text(rt, b"; reply kept\n");
+    // At a half tick: the supply, and the margin.
+    fn supply(&self, rt: &impl Print, offset: u64) -> io::Result<()> {
+        asked(rt, "supply", self.name)?;
+        print!(rt; " from {offset}: ")?;
+        answered(rt, "supply", judge::supply(self.task, self.slots, offset))?;
+        rt.print("; margin: ")?;
+        answered(rt, "margin", judge::margin(self.task, self.slots, offset))?;
+        rt.print("\n")
     }
-    record(rt, &reply)?;
-    tail(rt, &reply)
-}
 
-// One question. A letter that is none asks nothing.
-fn one(
-    rt: &impl Print,
-    letter: u8,
-    name: &[u8],
-    task: &[u8],
-    slots: &[u8],
-    told: &lend::Told,
-) -> io::Result<()> {
-    let offset = lend::number(told, b'x');
-    match letter {
-        b'j' => judge(rt, name, task, slots, lend::lent(told, b'r', REPLY)),
-        b'c' => count(rt, name, task, slots, offset),
-        b's' => supply(rt, name, task, slots, offset),
-        b'w' => which(rt, name, task, slots),
-        b'g' => gifts::grant(rt, name, told),
-        b'l' => lookups::lookup(rt, lend::number(told, b'i')),
-        _ => Ok(()),
+    // Which slot is bad, and what about it.
+    fn which(&self, rt: &impl Print) -> io::Result<()> {
+        let (refusal, place) = match which::which_slot(self.task, self.slots) {
+            Ok(()) => (0, 0),
+            Err(t) => (t.refusal.number(), t.place),
+        };
+        asked(rt, "which", self.name)?;
+        println!(rt; ": refusal {refusal}, place {place}")
     }
-}
 
-// Every question, of the same records.
-fn all(
-    rt: &impl Print,
-    asks: &[u8],
-    name: &[u8],
-    task: &[u8],
-    slots: &[u8],
-    told: &lend::Told,
-) -> io::Result<()> {
-    let mut i = 0;
-    while i < asks.len() {
-        one(rt, asks[i], name, task, slots, told)?;
-        i += 1;
+    // Judging, with a reply buffer full of 170.
+    fn judge(&self, rt: &impl Print, lent: usize) -> io::Result<()>
+        requires { lent ≤ 28 }
+    {
+        let before = [170u8; REPLY];
+        let mut reply = before;
+        let refusal = match judge::judge(self.task, self.slots, &mut reply[..lent]) {
+            Ok(()) => 0,
+            Err(bad) => bad.number(),
+        };
+        asked(rt, "judge", self.name)?;
+        print!(rt; ": refusal {refusal}")?;
+        if reply == before {
+            return rt.print("; reply kept\n");
+        }
+        record(rt, &reply)?;
+        // Whether the bytes behind the record are those that were there.
+        let tail = if reply[Answer::BYTES..] == before[Answer::BYTES..] {
+            "kept"
+        } else {
+            "written"
+        };
+        println!(rt; ", tail {tail}")
     }
-    Ok(())
-}
 
-// The records of what is told, and every question of them.
-pub fn each(rt: &impl Print, asks: &[u8], name: &[u8], told: &lend::Told) -> io::Result<()> {
-    let task = lend::task(told);
-    let slots = lend::slots(told);
-    let t = lend::lent(told, b't', lend::ROOM);
-    let y = lend::lent(told, b'y', lend::ROOM);
-    all(rt, asks, name, &task[0..t], &slots[0..y], told)
+    // One question. A letter that is none asks nothing.
+    fn one(&self, rt: &impl Print, letter: u8) -> io::Result<()> {
+        let offset = self.told.number(b'x');
+        match letter {
+            b'j' => self.judge(rt, self.told.lent(b'r', REPLY)),
+            b'c' => self.count(rt, offset),
+            b's' => self.supply(rt, offset),
+            b'w' => self.which(rt),
+            b'g' => gifts::grant(rt, self.name, self.told),
+            b'l' => lookups::lookup(rt, self.told.number(b'i')),
+            _ => Ok(()),
+        }
+    }
+
+    // Every question, of the same records.
+    pub fn ask(&self, rt: &impl Print, letters: &[u8]) -> io::Result<()> {
+        for letter in letters {
+            self.one(rt, *letter)?;
+        }
+        Ok(())
+    }
 }

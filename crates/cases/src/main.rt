@@ -12,15 +12,14 @@
 //     a space              the next number of a slot record, in its order; for a grant, the next mark
 mod ask;
 mod gifts;
-mod lend;
 mod lookups;
-mod print;
 mod read;
+mod told;
 
 use std::io;
 
 fn main(rt: HostRuntime) -> io::Result<()> {
     let mut text = [0u8; 8192];
-    let n = read::fill(&mut rt.reader(), &mut text)?;
+    let n = sheets::fill(&mut rt.reader(), &mut text)?;
     read::cases(&rt, &text[..n])
 }

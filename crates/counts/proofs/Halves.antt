@@ -1,22 +1,16 @@
 -- Supply and margin at half ticks of the wheel. Assumes nothing.
-use mathlib.Core.Path.{◌≡◌, sym, ap, subst, ◌∙◌}
+use mathlib.Core.Path.{◌≡◌, sym, ap, ◌∙◌}
 use mathlib.Core.List.{List}
-use Prim.Native.Nat.{ℕ, ◌+◌, ◌*◌, ◌/◌, ◌%◌, ◌<◌}
+use Prim.Native.Nat.{ℕ, ◌+◌, ◌*◌, ◌/◌, ◌%◌}
 use native.Mathlib.Omega.{arith}
-use lib.IntN.{pos, sub_ℕ, ◌-ℤ◌}
-use mir.Syntax.{w32}
-use mir.Val.{SFits, to_z, of_z}
-use mir.ValLaws.{to_z_pos}
-use mir.Facts.{to_z-of_z}
-use borrow.Author.Rules.{sfits_of}
+use lib.IntN.{sub_ℕ}
 use Rattle.limits.specs.Limits.{asked}
 use Rattle.limits.specs.declared.Task.{Task}
 use Rattle.rules.specs.Sums.{Subset}
 use Rattle.rules.specs.Supply.{supply, margin}
-use Rattle.rules.proofs.Signed.{pos-minus, mag-sub}
 use Rattle.rules.proofs.Straight.{straight, supply-tick}
 use Rattle.rules.proofs.Step.{supply-mod}
-use Rattle.counts.proofs.Along.{Counted}
+use Rattle.counts.specs.Counts.{Counted}
 use Rattle.counts.proofs.Windows.{Window}
 
 -- ---- supply
@@ -46,18 +40,6 @@ half-odd l w d x s s' here next odd = (
 )
 
 -- ---- margin
-
--- The difference of two numbers that 31 bits hold, as signed locals have it.
-module _ (s n : ℕ) (supplied : s < 2147483648) (needed : n < 2147483648) where
-  over-is : (to_z w32 s -ℤ to_z w32 n) ≡ sub_ℕ s n
-  over-is =
-      ap (λ z. z -ℤ to_z w32 n) (to_z_pos w32 s supplied) ∙ ap (λ z. pos s -ℤ z) (to_z_pos w32 n needed) ∙ pos-minus s n
-
-  pub over-fits : SFits w32 (to_z w32 s -ℤ to_z w32 n)
-  over-fits = subst (SFits w32) (sym over-is) (sfits_of (mag-sub s n 2147483648 supplied (omega arith)))
-
-  pub over-back : to_z w32 (of_z w32 (to_z w32 s -ℤ to_z w32 n)) ≡ sub_ℕ s n
-  over-back = to_z-of_z over-fits ∙ over-is
 
 pub margin-at : (u : Subset) (t : Task) (x s : ℕ) → s ≡ supply 2 u t.d x → sub_ℕ s (2 * t.e) ≡ margin 2 u (asked t) x
 unfolding margin

@@ -1,10 +1,10 @@
 -- Windows from the usable ticks below a tick: whole turns, and a rest that may run over the wheel's end.
 --
 -- In order: whole turns; a window of one set; the same of every set laid out. Assumes nothing.
-use mathlib.Core.Path.{◌≡◌, ap, ◌∙◌, sym}
+use mathlib.Core.Path.{◌≡◌, ap, ◌∙◌}
 use mathlib.Core.List.{List}
-use Prim.Native.Nat.{ℕ, ◌+◌, ◌-◌, ◌*◌, ◌/◌, ◌%◌, ◌≤◌, ◌<◌}
-use native.Mathlib.Nat.{mul_comm, mul-le-mul_left, div-mul-le_self, div-add-mod, le_trans, div-eq_of_lt, zero-mul}
+use Prim.Native.Nat.{ℕ, ◌+◌, ◌-◌, ◌*◌, ◌/◌, ◌%◌, ◌≤◌}
+use native.Mathlib.Nat.{mul_comm, div-add-mod}
 use native.Mathlib.Omega.{arith}
 use Rattle.rules.specs.Sums.{Subset, number}
 use Rattle.rules.specs.Supply.{supply}
@@ -12,22 +12,14 @@ use Rattle.rules.specs.Worst.{Wheel}
 use Rattle.rules.proofs.Sums.{number-le, number-longer}
 use Rattle.rules.proofs.Straight.{windows, supply-ticks}
 use Rattle.rules.proofs.Total.{whole-turns}
-use Rattle.runs.specs.Runs.{Laid, Runs}
-use Rattle.counts.proofs.Along.{Counted, counted, Below}
+use Rattle.runs.specs.Runs.{Laid, Ordered}
+use Rattle.counts.specs.Counts.{Counted}
+use Rattle.counts.proofs.Along.{counted, Below}
 
 -- ---- whole turns
 
 abbrev pub Turned : List ℕ → ℕ → ℕ → ℕ → Type 0
 Turned l w d s = Counted l w d (λ u. d / w * number u w) s
-
-pub turned_le : (w d b : ℕ) → b ≤ w → d / w * b ≤ d
-turned_le w d b few = le_trans (mul-le-mul_left (d / w) few) (div-mul-le_self d w)
-
-pub turned_none : (l : List ℕ) (w d : ℕ) → d < w → Turned l w d 0
-turned_none l w d less = (omega arith, λ u laid. sym (ap (λ q. q * number u w) (div-eq_of_lt less) ∙ zero-mul (number u w)))
-
-pub turned-all : (l : List ℕ) (w d b : ℕ) → Below l w w b → Turned l w d (d / w * b)
-turned-all l w d b all = (turned_le w d b all.0, λ u laid. ap (λ n. d / w * n) (all.1 u laid))
 
 -- ---- a window of d ticks from tick a, of one set
 
@@ -58,9 +50,9 @@ window-over w u wheel r a less over =
 abbrev pub Window : List ℕ → ℕ → ℕ → ℕ → ℕ → Type 0
 Window l w d a s = Counted l w d (λ u. supply 1 u d a) s
 
-module _ (l : List ℕ) (w : ℕ) (runs : Runs l w) where
+module _ (l : List ℕ) (w : ℕ) (ordered : Ordered l w) where
   window-all : (d a s : ℕ) → ((u : Subset) → Laid l w u → s ≡ supply 1 u d a) → Window l w d a s
-  window-all d a s all = counted l w d s (λ u. supply 1 u d a) runs (λ u. supply-le u d a) all
+  window-all d a s all = counted l w d s (λ u. supply 1 u d a) ordered (λ u. supply-le u d a) all
 
   pub rest-inside : (a r gone end : ℕ) → Below l w a gone → Below l w (a + r) end → Window l w r a (end - gone)
   rest-inside a r gone end p q =

@@ -7,75 +7,75 @@ ghost use Rattle.std.specs.Int.Signed.{lt_z};
 ghost use Rattle.limits.specs.Limits.{most_need, most_period, asked, Within};
 ghost use Rattle.rules.specs.Sums.{Subset, number};
 ghost use Rattle.rules.specs.Supply.{supply, margin};
-ghost use Rattle.runs.specs.Runs.{Laid, Runs};
+ghost use Rattle.runs.specs.Runs.{Laid};
+ghost use Rattle.counts.specs.Counts.{Counted};
 
 use limits::Task;
+use runs::Ticks;
 
 // The usable ticks below tick x of the wheel. Run i isn't usable, the next one is.
-pub fn below(runs: &[u16], w: usize, x: usize) -> usize
-    requires { Runs runs.now w × (x ≤ w) }
-    ensures { (result ≤ x) × ((u : Subset) → Laid runs.now w u → result ≡ number u x) }
+pub fn below(runs: Ticks, x: usize) -> usize
+    requires { x ≤ runs.w }
+    ensures { Counted runs.entry.edges.now runs.entry.w x (λ u. number u x) result }
 {
     let mut passed = 0;
-    let mut i = 0;
-    while i < runs.len() {
-        let from = runs::end(runs, w, i);
+    for i in (0..runs.edges.len()).step_by(2) {
+        let from = runs.end(i);
         if x <= from {
             return passed;
         }
-        let to = runs::end(runs, w, i + 1);
+        let to = runs.end(i + 1);
         if x <= to {
             return passed + (x - from);
         }
         passed += to - from;
-        i += 2;
     }
     passed
 }
 
 // The usable ticks of the whole turns that d ticks take in.
-pub fn turned(runs: &[u16], w: usize, d: usize) -> usize
-    requires { Runs runs.now w × (d ≤ most_period) }
-    ensures { (result ≤ d) × ((u : Subset) → Laid runs.now w u → result ≡ d / w * number u w) }
+pub fn turned(runs: Ticks, d: usize) -> usize
+    requires { d ≤ most_period }
+    ensures { Counted runs.entry.edges.now runs.entry.w d (λ u. d / runs.entry.w * number u runs.entry.w) result }
 {
-    if d < w {
+    if d < runs.w {
         return 0;
     }
-    d / w * below(runs, w, w)
+    d / runs.w * below(runs, runs.w)
 }
 
 // The usable ticks of r ticks from tick a, less than a turn, which may run over the wheel's end.
-fn rest(runs: &[u16], w: usize, a: usize, r: usize) -> usize
-    requires { Runs runs.now w × (a < w) × (r < w) }
-    ensures { (result ≤ r) × ((u : Subset) → Laid runs.now w u → result ≡ supply 1 u r a) }
+fn rest(runs: Ticks, a: usize, r: usize) -> usize
+    requires { (a < runs.w) × (r < runs.w) }
+    ensures { Counted runs.entry.edges.now runs.entry.w r (λ u. supply 1 u r a) result }
 {
-    let gone = below(runs, w, a);
+    let gone = below(runs, a);
     let end = a + r;
-    if end <= w {
-        return below(runs, w, end) - gone;
+    if end <= runs.w {
+        return below(runs, end) - gone;
     }
-    below(runs, w, w) - gone + below(runs, w, end - w)
+    below(runs, runs.w) - gone + below(runs, end - runs.w)
 }
 
 // The supply of a strip at tick a of the wheel: whole turns, and the rest of the deadline.
-fn window(runs: &[u16], w: usize, a: usize, d: usize) -> usize
-    requires { Runs runs.now w × (a < w) × (d ≤ most_period) }
-    ensures { (result ≤ d) × ((u : Subset) → Laid runs.now w u → result ≡ supply 1 u d a) }
+fn window(runs: Ticks, a: usize, d: usize) -> usize
+    requires { (a < runs.w) × (d ≤ most_period) }
+    ensures { Counted runs.entry.edges.now runs.entry.w d (λ u. supply 1 u d a) result }
 {
-    turned(runs, w, d) + rest(runs, w, a, d % w)
+    turned(runs, d) + rest(runs, a, d % runs.w)
 }
 
 // The supply at half tick x, in half ticks (rule 2).
-pub fn supply(runs: &[u16], w: usize, x: usize, d: usize) -> usize
-    requires { Runs runs.now w × (x < 2 * w) × (d ≤ most_period) }
-    ensures { (result ≤ 2 * d) × ((u : Subset) → Laid runs.now w u → result ≡ supply 2 u d x) }
+pub fn supply(runs: Ticks, x: usize, d: usize) -> usize
+    requires { (x < 2 * runs.w) × (d ≤ most_period) }
+    ensures { Counted runs.entry.edges.now runs.entry.w (2 * d) (λ u. supply 2 u d x) result }
 {
     let a = x / 2;
-    let here = window(runs, w, a, d);
+    let here = window(runs, a, d);
     if x % 2 == 0 {
         return here + here;
     }
-    here + window(runs, w, (a + 1) % w, d)
+    here + window(runs, (a + 1) % runs.w, d)
 }
 
 // Supply minus need, with its sign (rule 3).
@@ -87,11 +87,11 @@ pub fn over(supply: usize, need: usize) -> i32
 }
 
 // The margin of a strip at half tick x, in half ticks.
-pub fn margin(runs: &[u16], w: usize, x: usize, task: Task) -> i32
-    requires { Runs runs.now w × (x < 2 * w) × Within task }
-    ensures { (u : Subset) → Laid runs.now w u → result ≡ margin 2 u (asked task) x }
+pub fn margin(runs: Ticks, x: usize, task: Task) -> i32
+    requires { (x < 2 * runs.w) × Within task }
+    ensures { (u : Subset) → Laid runs.entry.edges.now runs.entry.w u → result ≡ margin 2 u (asked task) x }
 {
-    over(supply(runs, w, x, task.d), 2 * task.e)
+    over(supply(runs, x, task.d), 2 * task.e)
 }
 
 // Below zero means dropped (rule 3).

@@ -1,17 +1,14 @@
 -- Laws of the search for the first largest entry: in a block, from block to block, and in the block that has it.
 --
 -- In order: a block; blocks; the place; the crest of the counts. Assumes nothing.
-use mathlib.Core.Path.{◌≡◌, refl, sym, ◌∙◌}
+use Rattle.std.proofs.Common.{◌≡◌, ◌≢◌, ℕ, ◌+◌, ◌-◌, ◌%◌, ◌≤◌, ◌<◌, min, max, List, ◌++◌, length, get_or, drop, refl, sym, ap, ◌∙◌, arith, get_or-drop}
+use Rattle.std.proofs.Math.ListN.{get_or-append, drop_of_length-le}
+use Rattle.std.proofs.lemmas.List.{length-drop, length-append, drop-drop, drop_at, nil_from_length}
 use mathlib.Core.Logic.{⊎_elim}
-use mathlib.Core.List.{List, ◌++◌}
-use Prim.Native.Nat.{ℕ, ◌+◌, ◌%◌, ◌≤◌, ◌<◌}
-use native.Mathlib.Nat.{le_refl, mod-lt}
-use native.Mathlib.Omega.{arith}
-use lib.ListN.{length, get_or, take, drop}
-use lib.Seq.{take_at}
-use Rattle.maps.specs.Maps.{fallen, Top, Sized}
+use native.Mathlib.Nat.{mod-lt}
+use Rattle.maps.specs.Maps.{fallen, Top}
 use Rattle.maps.proofs.Strips.{strips-turns}
-use Rattle.engine.specs.Counts.{Counted, Wheeled}
+use Rattle.engine.specs.Counts.{Counted}
 use Rattle.engine.specs.First.{Most, Led, First}
 use Rattle.rules.specs.Sums.{Largest}
 use Rattle.rules.proofs.Sums.{le-or-lt, largest-same}
@@ -20,63 +17,74 @@ use Rattle.engine.proofs.Counts.{counted-one}
 
 -- ---- a block
 
-pub most-start : {x : List ℕ} {from to : ℕ} → from < to → Most x from from to (get_or x from 0)
-most-start {from = from} l =
-    record { bound = λ i a b. absurd (omega arith); place = from; start = le_refl from; inside = l; hit = refl }
-
--- m' is m after place i: still m where the entry there is no more, else that entry.
-pub most-kept :
-    {x : List ℕ} {from i to m m' : ℕ} → Most x from i to m → get_or x i 0 ≤ m → m' ≡ m → Most x from (i + 1) to m'
-most-kept {x} {m = m} {m'} g l e =
+-- One entry more.
+pub most-next :
+    {x : List ℕ} {from i to m m' : ℕ} → Most x from i to m → from ≤ i → i < to → m' ≡ max m (get_or x i 0)
+    → Most x from (i + 1) to m'
+most-next {x} {i = i} {m = m} g low high e =
+    ⊎_elim
+    (λ (l : get_or x i 0 ≤ m).
     record {
       bound = λ j a b.
-          ⊎_elim
-          (λ (q : _ ≡ _). rw (q, e) l)
-          (λ s. let z = g.bound j a s in omega arith)
-          (last-or-before b);
+          ⊎_elim (λ (q : j ≡ i). rw q (omega arith)) (λ s. let z = g.bound j a s in omega arith) (last-or-before b);
       place = g.place;
       start = g.start;
       inside = g.inside;
-      hit = g.hit ∙ sym e;
-    }
-
-pub most-raised :
-    {x : List ℕ} {from i to m m' : ℕ} → Most x from i to m → from ≤ i → i < to → m < get_or x i 0 → m' ≡ get_or x i 0
-    → Most x from (i + 1) to m'
-most-raised {x} {i = i} {m = m} {m'} g low high l e =
+      hit = g.hit ∙ omega arith;
+    })
+    (λ (l : m < get_or x i 0).
     record {
       bound = λ j a b.
-          ⊎_elim
-          (λ (q : _ ≡ _). rw (q, e) (le_refl _))
-          (λ s. let z = g.bound j a s in omega arith)
-          (last-or-before b);
+          ⊎_elim (λ (q : j ≡ i). rw q (omega arith)) (λ s. let z = g.bound j a s in omega arith) (last-or-before b);
       place = i;
       start = low;
       inside = high;
-      hit = sym e;
-    }
+      hit = omega arith;
+    })
+    (le-or-lt (get_or x i 0) m)
 
-pub most-done : {x : List ℕ} {from i to m : ℕ} → Most x from i to m → to ≤ i → Most x from to to m
-most-done g l =
+-- The largest of a block b that stands in x from place `from` on.
+pub block-most :
+    {x b : List ℕ} {from m : ℕ} (r : List ℕ) → drop from x ≡ b ++ r → Most b 0 (length b) (length b) m
+    → Most x from (from + length b) (from + length b) m
+block-most {x} {b} {from} r cut g =
+    let read : (i : ℕ) → i < length b → get_or x (from + i) 0 ≡ get_or b i 0 =
+    λ i l. sym (get_or-drop from x i 0) ∙ ap (λ y. get_or y i 0) cut ∙ get_or-append b r 0 i l in
     record {
-      bound = λ j a b. g.bound j a (omega arith);
-      place = g.place;
-      start = g.start;
-      inside = g.inside;
-      hit = g.hit;
+      bound = λ i a l.
+          let o : from + (i - from) ≡ i = omega arith in
+          let z : get_or x i 0 ≡ get_or b (i - from) 0 = rw o at (read (i - from) (omega arith)) in
+          let h = g.bound (i - from) (omega arith) (omega arith) in omega arith;
+      place = from + g.place;
+      start = omega arith;
+      inside = omega (arith, g.inside);
+      hit = read g.place g.inside ∙ g.hit;
     }
 
 -- ---- blocks
 
-pub led-start : {x : List ℕ} → 0 < length x → Led x 0 (get_or x 0 0) 0
-led-start l =
+-- A block that is cut off the list x at place n, with `rest` behind it: no block but the last is shorter than `size`.
+pub record Cut {A : Type 0} (x block rest : List A) (n size : ℕ) : Type 0 where
+  pub inside : n < length x
+  pub next : drop (n + size) x ≡ rest
+  pub end : n + length block ≡ min (n + size) (length x)
+
+pub cut-of :
+    {A : Type 0} (x block rest : List A) (n size : ℕ) → drop n x ≡ block ++ rest
+    → length block ≡ min size (length (drop n x)) → 0 < length (drop n x) → Cut x block rest n size
+cut-of x block rest n size parts long some =
+    let d = length-drop n x in
+    let both : length (drop n x) ≡ length block + length rest = ap length parts ∙ length-append block rest in
+    let skip : drop (n + size) x ≡ drop size (block ++ rest) = sym (drop-drop size n x) ∙ ap (drop size) parts in
     record {
-      bound = λ i s. absurd (omega arith);
-      place = 0;
-      start = le_refl 0;
-      inside = l;
-      hit = refl;
-      least = λ i s. absurd (omega arith);
+      inside = omega arith;
+      next =
+          ⊎_elim
+          (λ (g : size ≤ length (drop n x)). skip ∙ drop_at block rest size (omega arith))
+          (λ (g : length (drop n x) < size).
+          skip ∙ drop_of_length-le (block ++ rest) (simp length-append (omega arith)) ∙ sym (nil_from_length rest (omega arith)))
+          (le-or-lt size (length (drop n x)));
+      end = omega arith;
     }
 
 pub led-kept : {x : List ℕ} {n to m b at : ℕ} → Led x n m at → Most x n to to b → b ≤ m → Led x to m at
@@ -110,36 +118,26 @@ led-raised {n = n} {to} g block l inside =
       least = λ i s. let z = g.bound i s in omega arith;
     }
 
-pub led-done : {x : List ℕ} {n m at : ℕ} → Led x n m at → length x ≤ n → Led x (length x) m at
-led-done g l =
-    record {
-      bound = λ i s. g.bound i (omega arith);
-      place = g.place;
-      start = g.start;
-      inside = g.inside;
-      hit = g.hit;
-      least = g.least;
-    }
-
 -- ---- the place
 
-pub led-next : {x : List ℕ} {m at : ℕ} → Led x (length x) m at → (get_or x at 0 ≡ m → ⊥) → Led x (length x) m (at + 1)
-led-next {x} {m} {at} g differs =
-    let here : get_or x at 0 ≤ m = g.bound at (omega (arith, g.start, g.inside)) in
-    let less : get_or x at 0 < m = omega arith in
-    let off : ¬ (at ≡ g.place) = λ e. differs (rw e g.hit) in
+-- The first m from `at` on, i places further, is the first of all.
+pub first-from :
+    {x : List ℕ} {m at : ℕ} (i : ℕ) → Led x (length x) m at → at + i < length x → get_or x (at + i) 0 ≡ m
+    → ((k : ℕ) → k < i → get_or x (at + k) 0 ≢ m) → First x m (at + i)
+first-from {x} {m} {at} i g inside hit before =
     record {
       bound = g.bound;
-      place = g.place;
-      start = omega (arith, g.start);
-      inside = g.inside;
-      hit = g.hit;
-      least = λ i s. ⊎_elim (λ (q : _ ≡ _). rw q less) (λ b. g.least i b) (last-or-before s);
+      inside = inside;
+      hit = hit;
+      least = λ j l.
+          ⊎_elim
+          (λ (q : at ≤ j).
+          let o : at + (j - at) ≡ j = omega arith in
+          let n : get_or x j 0 ≢ m = rw o at (before (j - at) (omega arith)) in
+          let h = g.bound j (omega arith) in omega arith)
+          (λ (q : j < at). g.least j q)
+          (le-or-lt at j);
     }
-
-pub first_of : {x : List ℕ} {m at : ℕ} → Led x (length x) m at → get_or x at 0 ≡ m → First x m at
-first_of g e =
-    record { bound = g.bound; inside = omega (arith, g.start, g.inside); hit = e; least = g.least }
 
 -- ---- the crest of the counts
 
@@ -154,11 +152,3 @@ crest-of {z} {x} {k = k} {t = t} h c part first =
 -- The map itself counts one strip.
 pub crest-one : (z : List ℕ) (h : ℕ) {k m t : ℕ} → k ≡ 1 → 0 < length z → First z m t → Top z h k m t
 crest-one z h e some f = rw e (crest-of h (counted-one (mod-lt h some)) refl f)
-
--- The counts, put over the start of a buffer d, are as long as the wheel.
-pub part_length :
-    {z x : List ℕ} {h k s : ℕ} (d : List ℕ) → Counted z h k x s → length z ≡ length (take (length z) (x ++ drop (length z) d))
-part_length {z} {x} d c = sym (rw (take_at x (drop (length z) d) (length z) c.as_long) c.as_long)
-
-pub wheeled-of : {z : List ℕ} {h k : ℕ} → Sized z h k → Wheeled z (h % length z)
-wheeled-of {h = h} sized = record { step = mod-lt h sized.some; most = sized.most; bits = sized.bits }

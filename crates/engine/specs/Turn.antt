@@ -2,11 +2,10 @@
 --
 --     byte_end, word_end           numbers below them fit 8 bits, 16 bits
 --     Fit x y m                    an entry of x and one of y have a sum below m
---     Stretch e x y from to at     places from .. to − 1 lie in e and x, and as many from at on lie in y
---     Passed d e x y from to at    e has d's entries before the stretch, and in it x's there and y's as far behind at
+--     Added e x y                  e has at each place x's entry and y's
 --     Turning e x y s r m          e, x and y are as long as a wheel, s and r lie on it, and sums are below m
 --     Turned e x y s r q           e has at each place x's entry and y's s places further round; q is r further than s
-use Rattle.std.specs.Prelude.{◌≡◌, List, ℕ, ◌+◌, ◌-◌, ◌%◌, ◌≤◌, ◌<◌, length, get_or}
+use Rattle.std.specs.Prelude.{◌≡◌, List, ℕ, ◌+◌, ◌%◌, ◌≤◌, ◌<◌, length, get_or}
 use Rattle.limits.specs.Limits.{most_ticks}
 
 abbrev pub byte_end : ℕ
@@ -18,15 +17,8 @@ word_end = 65536
 pub record Fit (x y : List ℕ) (m : ℕ) : Type 0 where
   pub small : (i j : ℕ) → get_or x i 0 + get_or y j 0 < m
 
-pub record Stretch (e x y : List ℕ) (from to at : ℕ) : Type 0 where
-  pub order : from ≤ to
-  pub written : to ≤ length e
-  pub read : to ≤ length x
-  pub ahead : at + (to - from) ≤ length y
-
-pub record Passed (d e x y : List ℕ) (from to at : ℕ) : Type 0 where
-  pub below : (i : ℕ) → i < from → get_or e i 0 ≡ get_or d i 0
-  pub made : (i : ℕ) → from ≤ i → i < to → get_or e i 0 ≡ get_or x i 0 + get_or y (at + (i - from)) 0
+pub record Added (e x y : List ℕ) : Type 0 where
+  pub made : (i : ℕ) → i < length e → get_or e i 0 ≡ get_or x i 0 + get_or y i 0
 
 pub record Turning (e x y : List ℕ) (s r m : ℕ) : Type 0 where
   pub written : length e ≡ length x

@@ -22,7 +22,7 @@ pub fn bytes(map: &[u8], here: &mut [u8], there: &mut [u8], h: usize, k: usize) 
     turn::turned(here, there, there, s, s)
 }
 
-// Bytes as long as the counts fit them, 16 bits after that.
+// Bytes as long as the counts fit them, 16 bits after that. It stays beside `bytes`, since the two start differently: from the map, or from counts in bytes.
 pub fn words(
     map: &[u8],
     low: &mut [u8],
@@ -37,12 +37,12 @@ pub fn words(
 {
     if k % 2 == 1 {
         let s = words(map, low, spare, there, here, h, k - 1);
-        return turn::turned_bits(here, there, map, s, h);
+        return turn::turned(here, there, map, s, h);
     }
     if k / 2 < BYTE_END {
         let s = bytes(map, low, spare, h, k / 2);
-        return turn::turned_wide(here, low, low, s, s);
+        return turn::turned(here, low, low, s, s);
     }
     let s = words(map, low, spare, there, here, h, k / 2);
-    turn::turned_words(here, there, there, s, s)
+    turn::turned(here, there, there, s, s)
 }

@@ -1,127 +1,54 @@
 // The largest count, and the first tick that has it.
 // Blocks are searched for their largest count by straight loops; only one block is then looked through for the place.
-ghost use Rattle.std.specs.Prelude.{◌≡◌, ◌≤◌, ◌<◌, length};
+ghost use Rattle.std.specs.Prelude.{◌≡◌, ◌<◌, length, position};
 ghost use Rattle.engine.specs.First.{Most, Led, First};
 
+use crate::entry::Entry;
 use maps::Crest;
 
 const BLOCK: usize = 256;
 
-fn wide(x: u8) -> u32
-    ensures { result ≡ x }
+fn largest<T: Entry>(block: &[T]) -> T
+    requires { 0 < length block.now }
+    ensures { Most (T.values block.now) 0 (length block.now) (length block.now) (T.value result) }
 {
-    x as u32
-}
-
-fn wide_word(x: u16) -> u32
-    ensures { result ≡ x }
-{
-    x as u32
-}
-
-fn block_end(from: usize, n: usize) -> usize
-    requires { from < n }
-    ensures { (from < result) × (result ≤ n) }
-{
-    if n - from <= BLOCK { n } else { from + BLOCK }
-}
-
-fn largest(x: &[u8], from: usize, to: usize) -> u8
-    requires { (from < to) × (to ≤ length x.now) }
-    ensures { Most x.now from to to result }
-{
-    let mut m = x[from];
-    let mut i = from;
-    while i < to {
-        let v = x[i];
-        if m < v {
-            m = v;
-        }
-        i += 1;
+    let mut m = block[0];
+    for v in block {
+        m = m.max(*v);
     }
     m
 }
 
-fn largest_word(x: &[u16], from: usize, to: usize) -> u16
-    requires { (from < to) × (to ≤ length x.now) }
-    ensures { Most x.now from to to result }
+// The first place of m.
+fn place<T: Entry>(x: &[T], m: T) -> Option<usize>
+    ensures { result ≡ position (λ v. T.eq v m) x.now }
 {
-    let mut m = x[from];
-    let mut i = from;
-    while i < to {
-        let v = x[i];
-        if m < v {
-            m = v;
-        }
-        i += 1;
-    }
-    m
+    x.iter().position(|v| *v == m)
 }
 
-fn first(x: &[u8], from: usize, m: u8) -> usize
-    requires { Led x.now (length x.now) m from }
-    ensures { First x.now m result }
+// The first place of m, which is known not to stand before place `from`.
+fn first<T: Entry>(x: &[T], from: usize, m: T) -> usize
+    requires { Led (T.values x.now) (length x.now) (T.value m) from }
+    ensures { First (T.values x.now) (T.value m) result }
 {
-    let mut i = from;
-    while x[i] != m {
-        i += 1;
-    }
-    i
+    from + place(&x[from..], m).unwrap()
 }
 
-fn first_word(x: &[u16], from: usize, m: u16) -> usize
-    requires { Led x.now (length x.now) m from }
-    ensures { First x.now m result }
-{
-    let mut i = from;
-    while x[i] != m {
-        i += 1;
-    }
-    i
-}
-
-pub fn of_bytes(x: &[u8]) -> Crest
+pub fn of<T: Entry>(x: &[T]) -> Crest
     requires { 0 < length x.now }
-    ensures { First x.now result.drops result.at }
+    ensures { First (T.values x.now) result.drops result.at }
 {
     let mut m = x[0];
     let mut at = 0;
-    let mut from = 0;
-    while from < x.len() {
-        let to = block_end(from, x.len());
-        let byte = largest(x, from, to);
-        if m < byte {
-            m = byte;
-            at = from;
+    for (i, block) in x.chunks(BLOCK).enumerate() {
+        let most = largest(block);
+        if m < most {
+            m = most;
+            at = i * BLOCK;
         }
-        from = to;
     }
-    let place = first(x, at, m);
     Crest {
-        drops: wide(m),
-        at: place,
-    }
-}
-
-pub fn of_words(x: &[u16]) -> Crest
-    requires { 0 < length x.now }
-    ensures { First x.now result.drops result.at }
-{
-    let mut m = x[0];
-    let mut at = 0;
-    let mut from = 0;
-    while from < x.len() {
-        let to = block_end(from, x.len());
-        let word = largest_word(x, from, to);
-        if m < word {
-            m = word;
-            at = from;
-        }
-        from = to;
-    }
-    let place = first_word(x, at, m);
-    Crest {
-        drops: wide_word(m),
-        at: place,
+        drops: m.number(),
+        at: first(x, at, m),
     }
 }

@@ -3,6 +3,7 @@
 // The worst of a map of drops by doubling: strips from every tick of the wheel are counted at once.
 mod count;
 mod crest;
+mod entry;
 mod pass;
 mod turn;
 
@@ -22,11 +23,11 @@ pub fn by_bytes(map: &[u8], here: &mut [u8], there: &mut [u8], h: usize, k: usiz
     ensures { Top map.now h k result.drops result.at }
 {
     if k == 1 {
-        return crest::of_bytes(map);
+        return crest::of(map);
     }
     let w = map.len();
     count::bytes(map, &mut here[..w], &mut there[..w], h % w, k);
-    crest::of_bytes(&here[..w])
+    crest::of(&here[..w])
 }
 
 pub fn by_words(
@@ -51,5 +52,5 @@ pub fn by_words(
         h % w,
         k,
     );
-    crest::of_words(&here[..w])
+    crest::of(&here[..w])
 }

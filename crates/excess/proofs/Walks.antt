@@ -10,16 +10,22 @@ use Prim.Native.Nat.{ℕ, zero, suc, ◌+◌, ◌-◌, ◌*◌, ◌%◌, ◌≤�
 use native.Mathlib.Nat.{le_refl, mod-lt, mod-eq_of_lt, mod_self}
 use native.Mathlib.Numerals.{add-one}
 use native.Mathlib.Omega.{arith}
-use lib.ListN.{length, get_or}
+use lib.ListN.{length, get_or, get_or-eq_default}
+use Rattle.std.specs.List.{position, prefix_len}
+use Rattle.std.proofs.lemmas.List.Sums.{prefix_len-le-length, prefix_len_passes, prefix_len_stops}
+use Rattle.std.proofs.lemmas.Grind.{common_steps}
+use Rattle.std.specs.Option.{unwrap_or}
+use Rattle.std.proofs.Common.{Bool, Option, not, nat_lt}
 use Rattle.rules.specs.Sums.{Subset, bit, sum}
 use Rattle.rules.proofs.Sums.{le-or-lt}
-use Rattle.runs.specs.Runs.{edge, Lay, Laid, Runs}
+use Rattle.runs.specs.Runs.{edge, Lay, Laid, Runs, Ordered}
+use Rattle.runs.proofs.Ordered.{runs_in}
 use Rattle.runs.proofs.Edges.{edge-within, edge-past}
 use Rattle.maps.specs.Maps.{strips, met}
 use Rattle.maps.proofs.Strips.{strips-more, strips-longer, strips-back, strips-turns}
 use Rattle.maps.proofs.Places.{place-first, place-next, place-before, one_place, place-behind}
 use Rattle.maps.proofs.Rises.{Rise, rise, rise-start, none-met}
-use Rattle.late.proofs.Cursors.{edge-most}
+use Rattle.maps.proofs.Draws.{edge-most}
 use Rattle.excess.specs.Excess.{Lit, Met, start_of, Wraps, Opens, Says}
 use Rattle.excess.specs.declared.Outcome.{Outcome}
 use Rattle.excess.specs.declared.Outcome.TheVariants as outcome
@@ -29,40 +35,33 @@ use Rattle.excess.specs.declared.Outcome.TheVariants as outcome
 lit : (l : List ℕ) (w p i b : ℕ) → i % 2 ≡ b → edge l w i ≤ p → p < edge l w (suc i) → Lit l w p b
 lit l w p i b parity from to = record { each = λ z laid. sym parity ∙ sym (laid.lay.alike i p from to) }
 
--- The runs before run i end at p or before it.
-pub record Passing (l : List ℕ) (w p i : ℕ) : Type 0 where
-  pub out : i % 2 ≡ 0
-  pub from : edge l w i ≤ p
-
-pub passing-start : (l : List ℕ) (w p : ℕ) → Passing l w p 0
+-- Run i is the first one that ends behind tick p.
+look : (l : List ℕ) (w p i : ℕ) → ((k : ℕ) → k < i → get_or l k w ≤ p) → p < get_or l i w → Lit l w p (i % 2)
 unfolding edge
-passing-start l w p = record { out = refl; from = zero-le }
+look l w p zero before behind = lit l w p 0 (0 % 2) refl zero-le behind
+look l w p (suc i) before behind = lit l w p (suc i) (suc i % 2) refl (before i (omega arith)) behind
 
-module _ (l : List ℕ) (w p i : ℕ) (passing : Passing l w p i) where
-  pub look-painted : p < edge l w (suc i) → Lit l w p 0
-  look-painted to = lit l w p i 0 passing.out passing.from to
-
-  pub look-late : edge l w (suc i) ≤ p → p < edge l w (suc (i + 1)) → Lit l w p 1
-  look-late from to =
-      let on : edge l w (i + 1) ≤ p = rw add-one from in
-      lit l w p (i + 1) 1 (omega (arith, passing.out)) on to
-
-  pub passing-next : edge l w (suc (i + 1)) ≤ p → Passing l w p (i + 2)
-  passing-next from =
-      let e : i + 2 ≡ suc (i + 1) = omega arith in
-      record { out = omega (arith, passing.out); from = rw e from }
-
-  pub look-past : length l ≤ i → p < w → Lit l w p 0
-  look-past end inside = look-painted (rw (edge-past l w (suc i) (omega arith)) inside)
+pub looked :
+    (l : List ℕ) (w p : ℕ) {r : Option ℕ} {i : ℕ} → p < w → r ≡ position (λ end. nat_lt p end) l → i ≡ unwrap_or r (length l)
+    → Lit l w p (i % 2)
+looked l w p {i = i} inside found run =
+    let test : ℕ → Bool = λ end. not (nat_lt p end) in
+    let most = prefix_len-le-length test l in
+    let first : i ≡ prefix_len test l = grind (arith, common_steps) in
+    look l w p i (λ k less. let e = prefix_len_passes test l k w (omega arith) in grind (arith, common_steps))
+    (⊎_elim
+    (λ (past : length l ≤ i). rw (get_or-eq_default l w past) inside)
+    (λ (at : i < length l). let e = prefix_len_stops test l w (omega arith) in rw first (grind (arith, common_steps)))
+    (le-or-lt (length l) i))
 
 pub start-itself : (l : List ℕ) (w i : ℕ) → edge l w (suc i) < w → edge l w (suc i) ≡ start_of l w i
 unfolding start_of edge
 start-itself l w i inside = sym (mod-eq_of_lt inside)
 
-pub start-end : (l : List ℕ) (w i : ℕ) → Runs l w → w ≤ edge l w (suc i) → 0 ≡ start_of l w i
-unfolding Runs start_of edge
+pub start-end : (l : List ℕ) (w i : ℕ) → Ordered l w → w ≤ edge l w (suc i) → 0 ≡ start_of l w i
+unfolding start_of edge
 start-end l w i runs past =
-    let end : get_or l i w ≡ w = omega (arith, edge-most runs.1.lay (suc i)) in
+    let end : get_or l i w ≡ w = omega (arith, edge-most l w (runs_in runs) (suc i)) in
     sym (ap (λ x. x % w) end ∙ mod_self w)
 
 start-inside : (l : List ℕ) (w i : ℕ) → 0 < w → start_of l w i < w
@@ -148,26 +147,6 @@ pub record Sliding (l : List ℕ) (w s k a from p q n drops : ℕ) : Type 0 wher
   pub some : n < k
   pub seen : (i x : ℕ) → i ≤ n → x < w → (x + i * s) % w ≡ from → Few l w s k a x
 
-pub sliding-start :
-    {l : List ℕ} {w s k a from q n drops : ℕ} → Counting l w s k a from q n drops → k ≤ n → 0 < k → Sliding l w s k a from from q 0 drops
-sliding-start {l} {w} {s} {k} {from = from} {n = n} {drops} counting all some =
-    let same : n ≡ k = omega (arith, counting.some) in
-    let count : Met l w s k from drops = rw same at counting.count in
-    let arrives = place-first s counting.start in
-    record {
-      inside = counting.start;
-      last = counting.inside;
-      behind = rw same at counting.place;
-      arrives = arrives;
-      count = count;
-      few = counting.few;
-      some = some;
-      seen = λ i x none below there.
-          let first : i ≡ 0 = omega arith in
-          let here : x ≡ from = one_place (0 * s) below counting.start (rw first at there ∙ sym arrives) in
-          rw here (met-few count counting.few);
-    }
-
 -- One step back: from p to p', the place behind from q to q'.
 module _
     {l : List ℕ} {w s k a from p q n drops p' q' b b' : ℕ} (sliding : Sliding l w s k a from p q n drops)
@@ -221,14 +200,6 @@ pub record Walking (l : List ℕ) (w s k a from i drops : ℕ) : Type 0 where
   pub few : drops ≤ a
   pub seen :
       (j n p : ℕ) → from ≤ j → j < i → j % 2 ≡ 0 → n < k → p < w → (p + n * s) % w ≡ start_of l w j → Few l w s k a p
-
-pub walking_start : {l : List ℕ} {w from : ℕ} (s k a : ℕ) → Opens l w from → Walking l w s k a from from 0
-walking_start s k a opens =
-    record {
-      even = ⊎_elim (λ e. rw e refl) (λ e. rw e.0 refl) opens;
-      few = zero-le;
-      seen = λ j n p low high. absurd (omega arith);
-    }
 
 pub walking-next :
     {l : List ℕ} {w s k a from i drops start p q n drops' : ℕ} → Walking l w s k a from i drops → start ≡ start_of l w i

@@ -6,7 +6,6 @@
 --     PackedGrant ..   a whole grant call whose result is packed
 use Rattle.std.specs.Prelude.{◌≡◌, Bool, List, ℕ, ◌+◌, ◌*◌, ◌<◌}
 use Rattle.rules.specs.Sums.{bit}
-use Rattle.records.specs.declared.board.Trouble.{Trouble}
 use Rattle.which.specs.Which.{Which}
 use Rattle.quick.specs.Quick.{Quick}
 use Rattle.grants.specs.Grants.{GrantCall}
@@ -15,10 +14,11 @@ unfoldable pub packed : ℕ → ℕ → ℕ
 packed n x = n * 4294967296 + x
 
 pub record PackedWhich (task slots : List ℕ) (r : ℕ) : Type 0 where
-  pub trouble : Trouble
-  pub small : trouble.place < 4294967296
-  pub result : r ≡ packed trouble.number trouble.place
-  pub call : Which task slots trouble
+  pub number : ℕ
+  pub place : ℕ
+  pub small : place < 4294967296
+  pub result : r ≡ packed number place
+  pub call : Which task slots number place
 
 pub record PackedQuick (task slots : List ℕ) (r : ℕ) : Type 0 where
   pub number : ℕ

@@ -2,31 +2,25 @@
 --
 --     bad_mark l                        12 for a mark that is neither 0 nor 1
 --     grant_refusal l v loss e D h m k  12, then 6 to 10, the first that applies
---     checked l v loss e D h m k        the grid and the task that granting goes on with, or the refusal
 --     Gridded l g                       what refusal 12 has shown of the marks and the grid
 --     asked_for e D h m k               the rules' task
 --     Marked l j after                  the first j free slots have mark 2, the others stay
 --     first_ticks l g j                 the usable ticks of the first j free slots
---     Tries l g t all runs              what a trial is handed: marks, grid and task, the number of free slots, and a buffer for the runs
+--     Tries l g t all                   what a trial is handed: marks, grid and task, and the number of free slots
 --     FirmSays l g t j r                r says whether the first j free slots are firm
 --     Halving l g t a b                 the first b free slots are firm, and no number below a is
 --     Searched l g t r                  r is the grant, or says that no choice of the free slots is firm
 --     GrantCall ..                      marks before and after, the numbers handed over, refusal number n and j
-use Rattle.std.specs.Prelude.{◌≡◌, ◌⊎◌, Bool, true, false, cond, List, ℕ, ◌*◌, ◌≤◌, ◌<◌, ltb, length, get_or}
+use Rattle.std.specs.Prelude.{◌≡◌, ◌⊎◌, Bool, true, false, cond, List, ℕ, ◌*◌, ◌≤◌, ◌<◌, ltb, length, get_or, Option, Some, None}
 use Rattle.rules.specs.Sums.{Subset, any, number}
 use Rattle.rules.specs.Supply.{Task}
 use Rattle.rules.specs.Worst.{Firm}
 use Rattle.rules.specs.Grant.{first, grid_ticks, Granted, NoChoice}
-use Rattle.limits.specs.Refusal.{◌when◌, ◌otherwise◌, if_none}
-use Rattle.limits.specs.Limits.{grid_refusal, task_refusal, task_of, grid_of, most_ticks, most_granted, Within}
+use Rattle.limits.specs.Refusal.{◌when◌, ◌otherwise◌}
+use Rattle.limits.specs.Limits.{grid_refusal, task_refusal, most_ticks, most_granted, Within}
 use Rattle.limits.specs.declared.Task as limits
 use Rattle.limits.specs.declared.Grid.{Grid}
 use Rattle.ticks.specs.Ticks.{free_of}
-use Rattle.room.specs.Room.{few_edges}
-use Rattle.grants.specs.declared.Checked.{Checked}
-use Rattle.grants.specs.declared.Checked.TheVariants.{Good, Refused}
-use Rattle.grants.specs.declared.search.Smallest.{Smallest}
-use Rattle.grants.specs.declared.search.Smallest.TheVariants.{First, Nothing}
 
 unfoldable pub bad_mark : List ℕ → ℕ
 bad_mark l = 12 when any (λ i. ltb 1 (get_or l i 0)) (length l)
@@ -34,11 +28,6 @@ bad_mark l = 12 when any (λ i. ltb 1 (get_or l i 0)) (length l)
 unfoldable pub grant_refusal : List ℕ → ℕ → ℕ → ℕ → ℕ → ℕ → ℕ → ℕ → ℕ
 grant_refusal l v loss e D h m k =
     grid_refusal (length l) v loss otherwise bad_mark l otherwise task_refusal e D h m k
-
-unfoldable pub checked : List ℕ → ℕ → ℕ → ℕ → ℕ → ℕ → ℕ → ℕ → Checked
-checked l v loss e D h m k =
-    if_none (grant_refusal l v loss e D h m k) (Good (grid_of (length l) v loss) (task_of e D h m k))
-    (Refused (grant_refusal l v loss e D h m k))
 
 pub record Gridded (l : List ℕ) (g : Grid) : Type 0 where
   pub some : 0 < length l * g.v
@@ -56,11 +45,10 @@ pub record Marked (l : List ℕ) (j : ℕ) (after : List ℕ) : Type 0 where
 abbrev pub first_ticks : List ℕ → Grid → ℕ → Subset
 first_ticks l g j = grid_ticks (length l) g.v g.loss (first (free_of l) j)
 
-pub record Tries (l : List ℕ) (g : Grid) (t : limits.Task) (all : ℕ) (runs : List ℕ) : Type 0 where
+pub record Tries (l : List ℕ) (g : Grid) (t : limits.Task) (all : ℕ) : Type 0 where
   pub gridded : Gridded l g
   pub within : Within t
   pub free : all ≡ number (free_of l) (length l)
-  pub room : length runs ≡ few_edges
 
 pub record FirmSays (l : List ℕ) (g : Grid) (t : Task) (j : ℕ) (r : Bool) : Type 0 where
   pub yes-firm : r ≡ true → Firm (first_ticks l g j) t
@@ -72,9 +60,9 @@ pub record Halving (l : List ℕ) (g : Grid) (t : Task) (low high : ℕ) : Type 
   pub firm : Firm (first_ticks l g high) t
   pub least : (i : ℕ) → i < low → Firm (first_ticks l g i) t → ⊥
 
-abbrev pub Searched : List ℕ → Grid → Task → Smallest → Type 0
-Searched l g t (First j) = Granted (length l) g.v g.loss (free_of l) t j × (j ≤ length l)
-Searched l g t Nothing = NoChoice (length l) g.v g.loss (free_of l) t
+abbrev pub Searched : List ℕ → Grid → Task → Option ℕ → Type 0
+Searched l g t (Some j) = Granted (length l) g.v g.loss (free_of l) t j × (j ≤ length l)
+Searched l g t None = NoChoice (length l) g.v g.loss (free_of l) t
 
 -- A refusal of the input gives its number. Otherwise the grant is made, or it is refused because no set of free slots is firm.
 pub record GrantCall (l : List ℕ) (v loss e D h m k n j : ℕ) (after : List ℕ) : Type 0 where

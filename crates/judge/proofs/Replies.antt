@@ -1,122 +1,135 @@
--- Each way out of judging gives the reply that docs/RULES.md names. Assumes nothing.
-use mathlib.Core.Path.{◌≡◌, refl, sym, ap, subst, ◌∙◌}
+-- What comes of a task record, and the reply that docs/RULES.md names for it. Assumes nothing.
+use mathlib.Core.Path.{◌≡◌, refl, sym, ap, ◌∙◌}
 use mathlib.Core.Logic.{◌⊎◌, ⊎_elim}
 use mathlib.Core.List.{List}
-use Prim.Native.Nat.{ℕ, ◌-◌, ◌≤◌, ◌<◌}
+use Prim.Native.Nat.{ℕ, ◌≤◌, ◌<◌}
 use native.Mathlib.Omega.{arith}
-use lib.IntN.{ℤ, pos}
+use lib.IntN.{pos}
 use lib.ListN.{length}
-use borrow.Author.Tests.{lt-ltb, le-ltb, le-leb, lt-leb}
-use Rattle.rules.specs.Sums.{bit}
-use Rattle.rules.specs.Worst.{Worst, firm_test}
-use Rattle.rules.specs.Least.{Least}
+use native.Mathlib.Nat.{zero-lt-suc}
+use borrow.Author.Tests.{le-ltb, ltb-false}
+use Rattle.std.specs.Prelude.{Result, Ok, Err}
+use Rattle.rules.specs.Worst.{firm_test}
 use Rattle.rules.proofs.Worst.{firm-agrees}
 use Rattle.octets.specs.Octets.{over}
+use Rattle.limits.specs.Refusal.{number, refusal}
 use Rattle.limits.specs.Limits.{asked}
-use Rattle.limits.specs.declared.Task.{Task}
-use Rattle.limits.proofs.Refusals.{at_first, at_next, when_true, when_false}
-use Rattle.records.specs.Records.{reply_bytes, task_record, board_of, ticks_of, asked_of, answer_bytes}
-use Rattle.records.specs.Refusals.{sizes, room, body_refusal, judge_refusal, job_of, checked}
+use Rattle.limits.specs.declared.Refusal.{Refusal}
+use Rattle.limits.proofs.Refusals.{at_next, when_false, when-all, when-none}
+use Rattle.limits.proofs.Checks.{number-some, err_first, err_next}
+use Rattle.records.specs.Records.{reply_bytes, task_record, board_of, ticks_of, answer_bytes}
+use Rattle.records.specs.Answers.{answer_of}
+use Rattle.records.specs.Refusals.{sizes, room, body_refusal, judge_refusal, job_of}
 use Rattle.records.specs.declared.TaskRecord.{TaskRecord}
 use Rattle.records.specs.declared.Job.{Job}
-use Rattle.records.specs.declared.Checked.TheVariants.{Accepted, Refused}
+use Rattle.records.specs.declared.answer.Found.{Found}
 use Rattle.records.proofs.Parts.{sizes-one}
-use Rattle.records.proofs.Checks.{checked-accepted, checked_refused}
-use Rattle.records.specs.Jobs.{job_ticks}
-use Rattle.judge.specs.Judge.{Answered, Judged}
 use Rattle.records.proofs.Accepts.{body-high}
+use Rattle.room.specs.declared.Peak.{Peak}
+use Rattle.jobs.specs.Lent.{Peaked}
+use Rattle.judge.specs.Judge.{Outcome, Answered, Judged}
 
--- ---- rule 7's bit
+-- ---- what comes of a task record
 
-pub firm-yes : (t : Task) (c : ℕ) → c ≤ t.k - t.m → 1 ≡ bit (firm_test (asked t) c)
-unfolding firm_test bit
-firm-yes t c l = sym (ap bit (le-leb c (t.k - t.m) l))
-
-pub firm-no : (t : Task) (c : ℕ) → t.k - t.m < c → 0 ≡ bit (firm_test (asked t) c)
-unfolding firm_test bit
-firm-no t c l = sym (ap bit (lt-leb c (t.k - t.m) l))
-
--- ---- an accepted task's answer
-
--- What was found for the job is what the record says.
-pub answered-as :
-    (task slots reply : List ℕ) (r : TaskRecord) (j : Job) (c o : ℕ) (g : ℤ) (after : List ℕ)
-    → r ≡ task_record task → j ≡ job_of (task_record task)
-    → Worst j.wheel.w (job_ticks slots j) (asked j.task) c o × Least j.wheel.w (job_ticks slots j) (asked j.task) g
-    → after ≡ over (answer_bytes r.id 0 (bit (firm_test (asked j.task) c)) c o g) reply → Answered task slots reply after
+-- What is found for the accepted job is what comes of its record.
+pub outcome-found :
+    (r : TaskRecord) (l : List ℕ) (n : ℕ) (j : Job) (p : Peak) (f : Found) → (n ≡ 0) × (j ≡ job_of r) → Peaked l j p
+    → f ≡ record { firm = firm_test (asked j.task) p.drops; drops = p.drops; offset = p.offset; margin = p.margin }
+    → Outcome r l n (Ok f)
 unfolding ticks_of board_of
-answered-as task slots reply r j c o g after e ours (worst, least) written =
-    let here : Worst (task_record task).w (ticks_of (task_record task) slots) (asked_of (task_record task)) c o =
-    subst (λ (x : Job). Worst x.wheel.w (job_ticks slots x) (asked x.task) c o) ours worst in
-    record {
-      drops = c;
-      offset = o;
-      firm = firm_test (asked_of (task_record task)) c;
-      margin = g;
-      worst = here;
-      said = firm-agrees _ _ _ c o here;
-      least = subst (λ (x : Job). Least x.wheel.w (job_ticks slots x) (asked x.task) g) ours least;
-      bytes = written ∙ (λ i. over (answer_bytes (e i).id 0 (bit (firm_test (asked (ours i).task) c)) c o g) reply);
-    }
+outcome-found r l n j p f (none, same) peaked said =
+    let here : Peaked l (job_of r) p = rw same at peaked in
+    rw (said, same) (none, refl, here.0, here.1)
 
--- ---- the ways out
+outcome-number : (r : TaskRecord) (l : List ℕ) (n : ℕ) (x : Result Found Refusal) → Outcome r l n x → refusal x ≡ n
+outcome-number r l n (Ok f) o = sym o.0
+outcome-number r l n (Err bad) o = o
 
--- 0 and the numbers above 2 are neither 1 nor 2.
-pub not_low : (n : ℕ) → (n ≡ 1) ⊎ (n ≡ 2) → (0 < n → 2 < n) → ⊥
-not_low n low high = ⊎_elim (λ one. let h = high (omega arith) in omega arith) (λ two. let h = high (omega arith) in omega arith) low
+-- ---- the reply
+
+-- What a call that gave number n has left: numbers 1 and 2 write nothing, any other goes into the record, and 0 has an answer.
+pub record Replied (task slots reply : List ℕ) (n : ℕ) (after : List ℕ) : Type 0 where
+  pub silent : (n ≡ 1) ⊎ (n ≡ 2) → after ≡ reply
+  pub refused : 2 < n → after ≡ over (answer_bytes (task_record task).id n 0 0 0 (pos 0)) reply
+  pub answered : n ≡ 0 → Answered task slots reply after
+
+pub room-low : (reply : List ℕ) (bad : Refusal) → number bad ≡ room reply → number bad ≤ 2
+unfolding room
+room-low reply bad e = rw e (when-all (λ x. x ≤ 2) 2 _ (omega arith) (omega arith))
+
+pub room-long : (reply : List ℕ) → room reply ≡ 0 → reply_bytes ≤ length reply
+unfolding room
+room-long reply none = ltb-false _ _ (when-none 2 _ (zero-lt-suc 1) none)
+
+pub room-none : (reply : List ℕ) → reply_bytes ≤ length reply → room reply ≡ 0
+unfolding room
+room-none reply long = when_false 2 _ (le-ltb _ _ long)
 
 module _ (task slots reply : List ℕ) where
-  pub reply-sizes : (n : ℕ) → n ≡ sizes task slots → (n ≡ 0 → ⊥) → Judged task slots reply n reply
+  pub replied-silent : (bad : Refusal) → number bad ≤ 2 → Replied task slots reply (number bad) reply
+  replied-silent bad low =
+      record {
+        silent = λ _. refl;
+        refused = λ high. absurd (omega arith);
+        answered = λ none. absurd (number-some bad none);
+      }
+
+  replied : (n : ℕ) (x : Result Found Refusal) (after : List ℕ)
+      → Outcome (task_record task) slots n x → ((n ≡ 0 → ⊥) → 2 < n)
+      → after ≡ over (answer_of (task_record task).id x) reply → Replied task slots reply (refusal x) after
+  replied n (Ok f) after o high written =
+      record {
+        silent = λ low. absurd (⊎_elim (λ one. omega arith) (λ two. omega arith) low);
+        refused = λ low. absurd (omega arith);
+        answered = λ _.
+            record {
+              drops = f.drops;
+              offset = f.offset;
+              firm = f.firm;
+              margin = f.margin;
+              worst = o.2;
+              said = rw o.1 (firm-agrees _ _ _ f.drops f.offset o.2);
+              least = o.3;
+              bytes = written;
+            };
+      }
+  replied n (Err bad) after o high written =
+      let some : 2 < number bad = rw o (high (λ z. number-some bad (o ∙ z))) in
+      record {
+        silent = λ low. absurd (⊎_elim (λ one. omega arith) (λ two. omega arith) low);
+        refused = λ _. written;
+        answered = λ none. absurd (number-some bad none);
+      }
+
+  -- What is written for what comes of a record, and the number that is passed on.
+  pub replied-as : (n m : ℕ) (r : TaskRecord) (x : Result Found Refusal) (after : List ℕ) → r ≡ task_record task
+      → Outcome r slots n x → ((n ≡ 0 → ⊥) → 2 < n) → m ≡ refusal x → after ≡ over (answer_of r.id x) reply
+      → (m ≡ n) × Replied task slots reply m after
+  replied-as n m r x after e o high passed written =
+      let here : Outcome (task_record task) slots n x = rw e at o in
+      (passed ∙ outcome-number _ slots n x here, rw passed (replied n x after here high (rw e at written)))
+
+  -- ---- the ways out of judging
+
+  with_number : {n : ℕ} {after : List ℕ} → n ≡ judge_refusal task slots reply → Replied task slots reply n after → Judged task slots reply n after
+  with_number number left = record { number = number; silent = left.silent; refused = left.refused; answered = left.answered }
+
+  pub judged-sizes : (bad : Refusal) → number bad ≡ sizes task slots → Judged task slots reply (number bad) reply
   unfolding judge_refusal
-  reply-sizes n e bad =
-      let one : n ≡ 1 = e ∙ sizes-one task slots (λ z. bad (e ∙ z)) in
-      record {
-        number = at_first _ _ _ e bad;
-        silent = λ _. refl;
-        refused = λ l. absurd (omega arith);
-        answered = λ z. absurd (bad z);
-      }
+  judged-sizes bad e =
+      let one : number bad ≡ 1 = e ∙ sizes-one task slots (λ z. number-some bad (e ∙ z)) in
+      with_number (err_first bad _ _ e) (replied-silent bad (omega arith))
 
-  pub reply-room : sizes task slots ≡ 0 → length reply < reply_bytes → Judged task slots reply 2 reply
-  unfolding judge_refusal room
-  reply-room good short =
-      record {
-        number = at_next _ _ _ good (at_first _ _ _ (sym (when_true 2 _ (lt-ltb _ _ short))) (λ z. omega arith));
-        silent = λ _. refl;
-        refused = λ l. absurd (omega arith);
-        answered = λ z. absurd (omega arith);
-      }
+  module _ (good : sizes task slots ≡ 0) where
+    pub judged-room : (bad : Refusal) → number bad ≡ room reply → Judged task slots reply (number bad) reply
+    unfolding judge_refusal
+    judged-room bad e =
+        with_number (err_next bad _ _ good (err_first bad _ _ e)) (replied-silent bad (room-low reply bad e))
 
-  module _ (good : sizes task slots ≡ 0) (long : reply_bytes ≤ length reply) (r : TaskRecord) (e : r ≡ task_record task) where
-    body : (n : ℕ) → n ≡ body_refusal r slots → n ≡ judge_refusal task slots reply
-    unfolding judge_refusal room
-    body n p = at_next _ _ _ good (at_next _ _ _ (when_false 2 _ (le-ltb _ _ long)) (p ∙ ap (λ x. body_refusal x slots) e))
-
-    pub reply-refused :
-        (n : ℕ) (after : List ℕ) → checked r slots ≡ Refused n → after ≡ over (answer_bytes r.id n 0 0 0 (pos 0)) reply
-        → Judged task slots reply n after
-    reply-refused n after c written =
-        let bad = checked_refused r slots n c in
-        let high : 2 < n = body-high r slots n bad.0 bad.1 in
-        record {
-          number = body n bad.0;
-          silent = λ low. absurd (not_low n low (λ _. high));
-          refused = λ _. written ∙ ap (λ x. over (answer_bytes x.id n 0 0 0 (pos 0)) reply) e;
-          answered = λ z. absurd (bad.1 z);
-        }
-
-    module _ (j : Job) (a : checked r slots ≡ Accepted j) where
-      ours : j ≡ job_of (task_record task)
-      ours = (checked-accepted r slots j a).1 ∙ ap job_of e
-
-      pub reply-answered :
-          (c o : ℕ) (g : ℤ) (after : List ℕ)
-          → Worst j.wheel.w (job_ticks slots j) (asked j.task) c o × Least j.wheel.w (job_ticks slots j) (asked j.task) g
-          → after ≡ over (answer_bytes r.id 0 (bit (firm_test (asked j.task) c)) c o g) reply → Judged task slots reply 0 after
-      reply-answered c o g after found written =
-          record {
-            number = body 0 (sym (checked-accepted r slots j a).0);
-            silent = λ low. absurd (not_low 0 low (λ l. absurd (omega arith)));
-            refused = λ l. absurd (omega arith);
-            answered = λ _. answered-as task slots reply r j c o g after e ours found written;
-          }
+    pub judged-as : (m : ℕ) (r : TaskRecord) (x : Result Found Refusal) (after : List ℕ) → room reply ≡ 0 → r ≡ task_record task
+        → Outcome r slots (body_refusal r slots) x → m ≡ refusal x → after ≡ over (answer_of r.id x) reply
+        → Judged task slots reply m after
+    unfolding judge_refusal
+    judged-as m r x after long e o passed written =
+        let left = replied-as _ m r x after e o (body-high r slots _ refl) passed written in
+        with_number (at_next _ _ _ good (at_next _ _ _ long (left.0 ∙ ap (λ y. body_refusal y slots) e))) left.1

@@ -3,14 +3,14 @@
 --     supplied_at t l x    the supply in half ticks, 0 beside a refusal
 --     margin_at t l x      supply minus need in half ticks, 0 beside a refusal
 --     counted_at t l x     the drop count, 0 beside a refusal
---     gated t l x          the job of an accepted call, or its refusal
-use Rattle.std.specs.Prelude.{List, ℕ, ℤ, pos}
+--     Gated t l x r        r is the job of an accepted call on its slots, or its refusal
+use Rattle.std.specs.Prelude.{◌≡◌, List, ℕ, ℤ, pos, Result, Ok, Err}
 use Rattle.rules.specs.Supply.{supply, margin, count}
-use Rattle.limits.specs.Refusal.{if_none}
+use Rattle.limits.specs.Refusal.{if_none, number}
 use Rattle.records.specs.Records.{task_record, ticks_of, asked_of}
 use Rattle.records.specs.Refusals.{point_refusal, job_of}
-use Rattle.judge.specs.declared.point.Gate.{Gate}
-use Rattle.judge.specs.declared.point.Gate.TheVariants.{Open, Shut}
+use Rattle.limits.specs.declared.Refusal.{Refusal}
+use Rattle.jobs.specs.declared.accepted.Accepted.{Accepted}
 
 unfoldable pub supplied_at : List ℕ → List ℕ → ℕ → ℕ
 supplied_at task slots x =
@@ -24,6 +24,6 @@ unfoldable pub counted_at : List ℕ → List ℕ → ℕ → ℕ
 counted_at task slots x =
     if_none (point_refusal task slots x) (count 2 (ticks_of (task_record task) slots) (asked_of (task_record task)) x) 0
 
-unfoldable pub gated : List ℕ → List ℕ → ℕ → Gate
-gated task slots x =
-    if_none (point_refusal task slots x) (Open (job_of (task_record task))) (Shut (point_refusal task slots x))
+abbrev pub Gated : List ℕ → List ℕ → ℕ → Result Accepted Refusal → Type 0
+Gated task slots x (Ok a) = (point_refusal task slots x ≡ 0) × (a.job ≡ job_of (task_record task)) × (a.slots.now ≡ slots)
+Gated task slots x (Err bad) = number bad ≡ point_refusal task slots x

@@ -2,28 +2,28 @@
 --
 -- In order: edges rise; a cursor on its way; a part of the runs. Assumes nothing.
 use mathlib.Core.Path.{◌≡◌, refl, ap, ◌∙◌}
-use mathlib.Core.Logic.{◌⊎◌, ⊎_elim}
+use mathlib.Core.Logic.{⊎_elim}
 use mathlib.Core.List.{List}
-use Prim.Native.Nat.{ℕ, zero, suc, ◌+◌, ◌-◌, ◌≤◌, ◌<◌}
+use Prim.Native.Nat.{ℕ, zero, suc, ◌+◌, ◌-◌, ◌≤◌, ◌<◌, zero-le}
 use native.Mathlib.Nat.{add-zero, add-suc, le_refl}
 use native.Mathlib.Numerals.{add-one}
 use native.Mathlib.Omega.{arith}
-use lib.ListN.{length, take}
+use lib.ListN.{length, get_or, take}
 use lib.Seq.{get_or-take, length-take-le}
 use Rattle.rules.specs.Sums.{Subset}
 use Rattle.rules.proofs.Sums.{le-or-lt}
 use Rattle.runs.specs.Runs.{edge, Lay}
-use Rattle.runs.proofs.Edges.{edge-within, edge-past}
-use Rattle.late.specs.Late.{Cursor}
+use Rattle.runs.proofs.Edges.{edge-within, edge-read, edge-past}
+use Rattle.late.specs.Late.{Cursor, Passed}
 
 -- ---- edges
 
-module _ {l : List ℕ} {to : ℕ} {u : Subset} (lay : Lay l to u) where
+module _ (l : List ℕ) (to : ℕ) (order : (i : ℕ) → edge l to i ≤ edge l to (suc i)) where
   edge_on : (i k : ℕ) → edge l to i ≤ edge l to (i + k)
   edge_on i zero = rw add-zero (le_refl _)
-  edge_on i (suc k) = rw add-suc (omega (arith, edge_on i k, lay.order (i + k)))
+  edge_on i (suc k) = rw add-suc (omega (arith, edge_on i k, order (i + k)))
 
-  pub edge-rises : (i k : ℕ) → i ≤ k → edge l to i ≤ edge l to k
+  edge-rises : (i k : ℕ) → i ≤ k → edge l to i ≤ edge l to k
   edge-rises i k h =
       let e : i + (k - i) ≡ k = omega arith in
       rw e at (edge_on i (k - i))
@@ -36,6 +36,16 @@ module _ {l : List ℕ} {to : ℕ} {u : Subset} (lay : Lay l to u) where
       (λ (h : length l < i). omega (arith, edge-past l to i h))
       (le-or-lt i (length l))
 
+-- ---- where a tick lies
+
+-- Run i ends behind tick x or at it, and no run before does.
+pub cursor-found :
+    (l : List ℕ) (w x i : ℕ) → i ≤ length l → ((k : ℕ) → k < i → get_or l k 0 < x) → x ≤ edge l w (suc i) → Cursor l w i x
+unfolding edge
+cursor-found l w x zero some before behind = record { low = zero-le; high = behind }
+cursor-found l w x (suc i) some before behind =
+    record { low = omega (arith, before i (omega arith), edge-read l w i (omega arith)); high = behind }
+
 -- ---- a cursor on its way
 
 -- Before the end of the wheel a cursor is within the list.
@@ -46,16 +56,9 @@ cursor-inside l to i x low less =
     (λ (h : length l < i). absurd (omega (arith, edge-past l to i h)))
     (le-or-lt i (length l))
 
-pub cursor-next : (l : List ℕ) (to i x : ℕ) → edge l to (suc i) ≤ x → edge l to (i + 1) ≤ x
-cursor-next l to i x less = rw add-one (omega arith)
-
 pub edge-first : (l : List ℕ) (to : ℕ) → edge l to 0 ≡ 0
 unfolding edge
 edge-first l to = refl
-
--- The run behind i where `at` has come to the end of run i, else i itself.
-abbrev pub Passed : ℕ → ℕ → ℕ → ℕ → Type 0
-Passed i at end r = ((at ≡ end) × (r ≡ i + 1)) ⊎ ((at ≡ end → ⊥) × (r ≡ i))
 
 pub cursor-moves :
     {l : List ℕ} {to i at end r : ℕ} {u : Subset} → Lay l to u → edge l to i ≤ at → at ≤ end → end ≡ edge l to (suc i)

@@ -12,10 +12,10 @@ use lib.ListN.{length, take}
 use lib.Seq.{length-take-le}
 use borrow.Author.Tests.{lt-ltb, le-ltb}
 use Rattle.rules.specs.Sums.{Subset, bit}
-use Rattle.rules.proofs.Sums.{le-or-lt, bit_le, or_left, or_right}
+use Rattle.rules.proofs.Sums.{le-or-lt, or_left, or_right}
 use Rattle.runs.specs.Runs.{Lay, Turn}
 use Rattle.runs.proofs.Edges.{lay-turn, lay-on}
-use Rattle.late.specs.Late.{short, Slope, Line, Steady, Piece, off, Split, Stretch}
+use Rattle.late.specs.Pieces.{short, Slope, Line, Steady, Piece, Split, Stretch}
 
 -- ---- what a line comes to
 
@@ -136,15 +136,6 @@ lay-part {l} {l'} {n} {at} {step} {r} k z t room lay like =
     ap (λ y. bit (z y)) (sym e) ∙ like (x - at) (omega arith) ∙ sym t.parity ∙ ap (λ y. y % 2) (sym long))
 
 module _ (l : List ℕ) (n at m gap first : ℕ) (one : first ≤ 1) where
-  pub split-none : m ≡ 0 → Split l n at m gap first n l
-  split-none none =
-      record {
-        part = record { long = refl; most = omega arith };
-        laid = λ z lay early later. let e : at ≡ at + m = omega arith in rw e at lay;
-        early = λ all. omega arith;
-        later = λ some. absurd (omega arith);
-      }
-
   module _ (l' : List ℕ) (r : ℕ) (some : m ≡ 0 → ⊥) (room : n + min m 2 ≤ length l) where
     pub split-later : gap ≡ 0 → Turn l n at (1 - first) r l' → Split l n at m gap first r l'
     split-later none t =
@@ -182,29 +173,6 @@ module _ (l : List ℕ) (n at m gap first : ℕ) (one : first ≤ 1) where
           early = λ all. absurd (omega arith);
           later = λ past. (t'.parity, omega (arith, turned n first r one t.high t.parity, t'.high));
         }
-
--- What a line's crossing says is written as edges.
-module _ {l l' : List ℕ} {n at m s need side near far gap first r : ℕ} (p : Piece s need side near far m gap first) (t : Split l n at m gap first r l') where
-  stretch-few : (s' : ℕ) → s' + m * near ≡ s + m * far → r + off r s' need ≤ n + off n s need + 1
-  stretch-few s' e =
-      ⊎_elim
-      (λ (short : m ≤ gap). omega (arith, p.begins, t.early short))
-      (λ (long : gap < m). omega (arith, p.begins, t.later long, p.ends s' e long))
-      (le-or-lt m gap)
-
-  pub stretch-split : Stretch l n at m s need side near far r l'
-  stretch-split =
-      record {
-        part = t.part;
-        few = stretch-few;
-        laid = λ z v lay line same.
-            t.laid z lay
-            (λ x less soon. ap bit (same x less) ∙ p.early v line x less soon)
-            (λ x less past. ap bit (same x less) ∙ p.later v line x less past);
-      }
-
-pub piece-one : {s need side near far m gap first : ℕ} → Piece s need side near far m gap first → first ≤ 1
-piece-one {s} {need} p = omega (arith, p.begins, bit_le (ltb s need))
 
 -- ---- a piece that doesn't cross the need
 

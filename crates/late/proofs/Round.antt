@@ -27,7 +27,8 @@ use Rattle.runs.specs.Runs.{Lay, Laid, Runs}
 use Rattle.runs.proofs.Edges.{lay-none}
 use Rattle.counts.proofs.Windows.{supply-le, window-split}
 use Rattle.late.specs.declared.Walk.{Walk}
-use Rattle.late.specs.Late.{need_in, short, Cursor, Way, way, Walked, Walks, Bounds, Outset, Swept, late_room, Laying, LateIn}
+use Rattle.late.specs.Pieces.{short}
+use Rattle.late.specs.Late.{need_in, Cursor, Way, way, Walked, Walks, Bounds, Outset, Swept, late_room, Laying, LateIn}
 use Rattle.late.proofs.Sweeps.{come}
 use Rattle.late.proofs.Cursors.{edge-first, cursor-inside, lay-before}
 
@@ -107,7 +108,7 @@ module _ {l : List ℕ} {w rest side : ℕ} {out : List ℕ} {j s : ℕ} (need :
 
   module _ {k : Walk} {out' : List ℕ} (t : Swept before first out k out') where
     abbrev pub second : Walk
-    second = come k.a 0 k.i 0 k.s k.low k.n
+    second = come k.near.at 0 k.near.run 0 k.s k.low k.n
 
     abbrev pub behind : Way
     behind = way l w (take j l) rest rest need side
@@ -122,7 +123,7 @@ module _ {l : List ℕ} {w rest side : ℕ} {out : List ℕ} {j s : ℕ} (need :
           ours = laid.lay;
           theirs = lay-before laid.lay g.far inside;
           turned = λ x.
-              let e : k.a + x + rest ≡ x + w = omega (arith, t.level, t.end) in
+              let e : k.near.at + x + rest ≡ x + w = omega (arith, t.level, t.end) in
               ap u e ∙ laid.wheel.turns x ∙ ap u (omega arith);
           near = h.near;
           far = cursor-first (take j l) rest;
@@ -154,7 +155,7 @@ module _ {l : List ℕ} {w rest side : ℕ} {out : List ℕ} {j s : ℕ} (need :
 
     pub round : {k' : Walk} {out'' : List ℕ} → Swept behind second out' k' out'' → Laying l w rest need side out k'.n k'.low out''
     round {k'} t' =
-        let end : k'.a ≡ w = omega (arith, t.level, t.end, t'.level, t'.end) in
+        let end : k'.near.at ≡ w = omega (arith, t.level, t.end, t'.level, t'.end) in
         let few : k'.n ≤ late_room (length l) =
         omega (arith, long, t.few, t.theirs, t'.few, t'.ours, t'.theirs) in
         let thin : k'.n ≤ w = omega (arith, t.thin, t'.thin) in

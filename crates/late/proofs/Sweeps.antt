@@ -7,7 +7,7 @@ use mathlib.Core.Logic.{⊎_elim}
 use mathlib.Core.Bool.{◌||◌}
 use mathlib.Core.List.{List}
 use Prim.Native.Nat.{ℕ, zero, suc, ◌+◌, ◌-◌, ◌*◌, ◌%◌, ◌≤◌, ◌<◌, min}
-use native.Mathlib.Nat.{add-zero, add_assoc, zero-mul, suc-mul, le_refl}
+use native.Mathlib.Nat.{add-zero, add_assoc, zero-mul, suc-mul}
 use native.Mathlib.Omega.{arith}
 use lib.Dec.{ltb}
 use lib.ListN.{length}
@@ -19,9 +19,10 @@ use Rattle.rules.proofs.Least.{lowest-on}
 use Rattle.runs.specs.Runs.{edge}
 use Rattle.counts.proofs.Windows.{supply-le}
 use Rattle.late.specs.declared.Walk.{Walk}
-use Rattle.late.specs.Late.{short, Line, Slope, off, Stretch, Cursor, Way, Walked, Walks, Outset, Swept}
+use Rattle.late.specs.Pieces.{short, Line, Slope, off, Stretch}
+use Rattle.late.specs.Late.{Cursor, Way, Walked, Walks, Outset, Swept, Passed}
 use Rattle.late.proofs.Pieces.{line-lowest}
-use Rattle.late.proofs.Cursors.{edge-most, cursor-inside, Passed, cursor-moves}
+use Rattle.late.proofs.Cursors.{edge-most, cursor-inside, cursor-moves}
 
 -- ---- supply between edges
 
@@ -41,22 +42,23 @@ module _ (u : Subset) (rest a near far m : ℕ) where
   supply-line s e here there = record { at = λ x h. supply-at here there x h ∙ ap (λ n. n + x * far) (sym e) }
 
 abbrev pub come : ℕ → ℕ → ℕ → ℕ → ℕ → ℕ → ℕ → Walk
-come a b i j s low n = record { a = a; b = b; i = i; j = j; s = s; low = low; n = n }
+come a b i j s low n =
+    record { near = record { at = a; run = i }; far = record { at = b; run = j }; s = s; low = low; n = n }
 
 -- ---- one stretch
 
 -- From k to k' by m ticks, which is where a cursor first comes to the end of its run, at `here` or `there`.
 pub record Step (y : Way) (here there m : ℕ) (k : Walk) (out : List ℕ) (k' : Walk) (out' : List ℕ) : Type 0 where
-  pub near : here ≡ edge y.runs y.w (suc k.i)
-  pub far : there ≡ edge y.part y.stop (suc k.j)
-  pub first : m ≡ min (here - k.a) (there - k.b)
-  pub on : k'.a ≡ k.a + m
-  pub over : k'.b ≡ k.b + m
-  pub drawn : Stretch out k.n k.a m k.s y.need y.side (k.i % 2) (k.j % 2) k'.n out'
-  pub slides : k'.s + m * (k.i % 2) ≡ k.s + m * (k.j % 2)
+  pub near : here ≡ edge y.runs y.w (suc k.near.run)
+  pub far : there ≡ edge y.part y.stop (suc k.far.run)
+  pub first : m ≡ min (here - k.near.at) (there - k.far.at)
+  pub on : k'.near.at ≡ k.near.at + m
+  pub over : k'.far.at ≡ k.far.at + m
+  pub drawn : Stretch out k.n k.near.at m k.s y.need y.side (k.near.run % 2) (k.far.run % 2) k'.n out'
+  pub slides : k'.s + m * (k.near.run % 2) ≡ k.s + m * (k.far.run % 2)
   pub lower : k'.low ≡ min k.low k'.s
-  pub ours : Passed k.i k'.a here k'.i
-  pub theirs : Passed k.j k'.b there k'.j
+  pub ours : Passed k.near.run k'.near.at here k'.near.run
+  pub theirs : Passed k.far.run k'.far.at there k'.far.run
 
 part-le : (a b c : ℕ) → a + b ≡ c → b ≤ c
 part-le a b c e = omega arith
@@ -66,10 +68,10 @@ sums_same a b c d p q = omega arith
 
 -- What is known of the numbers alone.
 pub record Known (y : Way) (k : Walk) : Type 0 where
-  pub near : Cursor y.runs y.w k.i k.a
-  pub far : Cursor y.part y.stop k.j k.b
-  pub most : edge y.runs y.w (suc k.i) ≤ y.w
-  pub last : edge y.part y.stop (suc k.j) ≤ y.stop
+  pub near : Cursor y.runs y.w k.near.run k.near.at
+  pub far : Cursor y.part y.stop k.far.run k.far.at
+  pub most : edge y.runs y.w (suc k.near.run) ≤ y.w
+  pub last : edge y.part y.stop (suc k.far.run) ≤ y.stop
   pub small : k.s ≤ y.rest
 
 module _ (y : Way) (k : Walk) (out : List ℕ) where
@@ -79,34 +81,34 @@ module _ (y : Way) (k : Walk) (out : List ℕ) where
       record {
         near = h.near;
         far = h.far;
-        most = edge-most h.ours (suc k.i);
-        last = edge-most h.theirs (suc k.j);
-        small = omega (arith, h.supplied, supply-le u y.rest k.a);
+        most = edge-most _ _ h.ours.order (suc k.near.run);
+        last = edge-most _ _ h.theirs.order (suc k.far.run);
+        small = omega (arith, h.supplied, supply-le u y.rest k.near.at);
       }
 
   walked_line :
-      {u : Subset} → Walked y k out u → (m : ℕ) → k.a + m ≤ edge y.runs y.w (suc k.i)
-      → k.b + m ≤ edge y.part y.stop (suc k.j) → Line (λ x. supply 1 u y.rest (k.a + x)) k.s (k.i % 2) (k.j % 2) m
+      {u : Subset} → Walked y k out u → (m : ℕ) → k.near.at + m ≤ edge y.runs y.w (suc k.near.run)
+      → k.far.at + m ≤ edge y.part y.stop (suc k.far.run) → Line (λ x. supply 1 u y.rest (k.near.at + x)) k.s (k.near.run % 2) (k.far.run % 2) m
   walked_line {u} h m here there =
-      supply-line u y.rest k.a (k.i % 2) (k.j % 2) m k.s h.supplied
-      (λ x less. h.ours.alike k.i (k.a + x) (omega (arith, h.near.low)) (omega arith))
+      supply-line u y.rest k.near.at (k.near.run % 2) (k.far.run % 2) m k.s h.supplied
+      (λ x less. h.ours.alike k.near.run (k.near.at + x) (omega (arith, h.near.low)) (omega arith))
       (λ x less.
-      ap bit (h.turned x) ∙ h.theirs.alike k.j (k.b + x) (omega (arith, h.far.low)) (omega arith))
+      ap bit (h.turned x) ∙ h.theirs.alike k.far.run (k.far.at + x) (omega (arith, h.far.low)) (omega arith))
 
   -- Supply can't fall below 0.
   walks-fall :
-      Walks y k out → (m : ℕ) → k.a + m ≤ edge y.runs y.w (suc k.i)
-      → k.b + m ≤ edge y.part y.stop (suc k.j) → m * (k.i % 2) ≤ k.s + m * (k.j % 2)
+      Walks y k out → (m : ℕ) → k.near.at + m ≤ edge y.runs y.w (suc k.near.run)
+      → k.far.at + m ≤ edge y.part y.stop (suc k.far.run) → m * (k.near.run % 2) ≤ k.s + m * (k.far.run % 2)
   unfolding Walks
   walks-fall (u, h) m here there =
-      part-le (supply 1 u y.rest (k.a + m)) (m * (k.i % 2)) _ ((walked_line h m here there).at m (omega arith))
+      part-le (supply 1 u y.rest (k.near.at + m)) (m * (k.near.run % 2)) _ ((walked_line h m here there).at m (omega arith))
 
   module _ (here there m : ℕ) (k' : Walk) (out' : List ℕ) (t : Step y here there m k out k' out') where
     -- A stretch stays within both runs.
-    step-ours : Cursor y.runs y.w k.i k.a → k.a + m ≤ here
+    step-ours : Cursor y.runs y.w k.near.run k.near.at → k.near.at + m ≤ here
     step-ours h = omega (arith, t.first, t.near, h.high)
 
-    step-theirs : Cursor y.part y.stop k.j k.b → k.b + m ≤ there
+    step-theirs : Cursor y.part y.stop k.far.run k.far.at → k.far.at + m ≤ there
     step-theirs h = omega (arith, t.first, t.far, h.high)
 
     walked_next : (u : Subset) → Walked y k out u → Walked y k' out' u
@@ -114,29 +116,29 @@ module _ (y : Way) (k : Walk) (out : List ℕ) where
     walked_next u h =
         let here' = step-ours h.near in
         let there' = step-theirs h.far in
-        let line : Line (λ x. supply 1 u y.rest (k.a + x)) k.s (k.i % 2) (k.j % 2) m =
+        let line : Line (λ x. supply 1 u y.rest (k.near.at + x)) k.s (k.near.run % 2) (k.far.run % 2) m =
         walked_line h m (omega (arith, t.near)) (omega (arith, t.far)) in
-        let end : k'.s ≡ supply 1 u y.rest (k.a + m) =
-        sums_same k'.s _ (m * (k.i % 2)) _ t.slides (line.at m (omega arith)) in
+        let end : k'.s ≡ supply 1 u y.rest (k.near.at + m) =
+        sums_same k'.s _ (m * (k.near.run % 2)) _ t.slides (line.at m (omega arith)) in
         record {
           ours = h.ours;
           theirs = h.theirs;
           turned = λ x.
-              let e : k'.a + x + y.rest ≡ k.a + (m + x) + y.rest = omega (arith, t.on) in
-              let g : k.b + (m + x) ≡ k'.b + x = omega (arith, t.over) in
+              let e : k'.near.at + x + y.rest ≡ k.near.at + (m + x) + y.rest = omega (arith, t.on) in
+              let g : k.far.at + (m + x) ≡ k'.far.at + x = omega (arith, t.over) in
               ap u e ∙ h.turned (m + x) ∙ ap u g;
           near = cursor-moves h.ours (omega (arith, t.on, h.near.low)) (omega (arith, t.on)) t.near t.ours;
           far = cursor-moves h.theirs (omega (arith, t.over, h.far.low)) (omega (arith, t.over)) t.far t.theirs;
           supplied = end ∙ ap (supply 1 u y.rest) (sym t.on);
           lowest =
               rw (t.lower, t.on)
-              (lowest-on (supply 1 u y.rest) k.a m k.low k'.s h.lowest (sym end) (λ x less.
+              (lowest-on (supply 1 u y.rest) k.near.at m k.low k'.s h.lowest (sym end) (λ x less.
               omega (arith, h.supplied, end, line-lowest line (omega arith) x less)));
           laid =
               let z : Subset = short (supply 1 u y.rest) y.need y.side in
-              let e : k.a + m ≡ k'.a = sym t.on in
-              rw e at (t.drawn.laid z (λ x. supply 1 u y.rest (k.a + x)) h.laid line (λ x less.
-              ap (λ b. ltb (supply 1 u y.rest (k.a + x)) y.need || ltb (supply 1 u y.rest b) y.need) (add_assoc k.a x y.side)));
+              let e : k.near.at + m ≡ k'.near.at = sym t.on in
+              rw e at (t.drawn.laid z (λ x. supply 1 u y.rest (k.near.at + x)) h.laid line (λ x less.
+              ap (λ b. ltb (supply 1 u y.rest (k.near.at + x)) y.need || ltb (supply 1 u y.rest b) y.need) (add_assoc k.near.at x y.side)));
         }
 
     walks_next : Walks y k out → Walks y k' out'
@@ -144,31 +146,31 @@ module _ (y : Way) (k : Walk) (out : List ℕ) where
     walks_next (u, h) = (u, walked_next u h)
 
     stuck :
-        (a b : ℕ) → a ≡ k.a → b ≡ k.b → a ≤ here → b ≤ there → (k'.a ≡ here → ⊥) → (k'.b ≡ there → ⊥) → ⊥
+        (a b : ℕ) → a ≡ k.near.at → b ≡ k.far.at → a ≤ here → b ≤ there → (k'.near.at ≡ here → ⊥) → (k'.far.at ≡ there → ⊥) → ⊥
     stuck a b p q near far x y =
         ⊎_elim
-        (λ (h : here - k.a ≤ there - k.b). x (omega (arith, t.first, t.on)))
-        (λ (h : there - k.b < here - k.a). y (omega (arith, t.first, t.over)))
-        (le-or-lt (here - k.a) (there - k.b))
+        (λ (h : here - k.near.at ≤ there - k.far.at). x (omega (arith, t.first, t.on)))
+        (λ (h : there - k.far.at < here - k.near.at). y (omega (arith, t.first, t.over)))
+        (le-or-lt (here - k.near.at) (there - k.far.at))
 
     -- One cursor moves on at least, and each by one run at most.
     step-moves :
         Known y k
-        → (k.i + k.j < k'.i + k'.j) × (k'.i ≤ k.i + 1) × (k'.j ≤ k.j + 1)
+        → (k.near.run + k.far.run < k'.near.run + k'.far.run) × (k'.near.run ≤ k.near.run + 1) × (k'.far.run ≤ k.far.run + 1)
     step-moves h =
         let a = step-ours h.near in
         let b = step-theirs h.far in
         ⊎_elim
-        (λ (p : (k'.a ≡ here) × (k'.i ≡ k.i + 1)).
+        (λ (p : (k'.near.at ≡ here) × (k'.near.run ≡ k.near.run + 1)).
         ⊎_elim
-        (λ (q : (k'.b ≡ there) × (k'.j ≡ k.j + 1)). omega (arith, p.1, q.1))
-        (λ (q : (k'.b ≡ there → ⊥) × (k'.j ≡ k.j)). omega (arith, p.1, q.1))
+        (λ (q : (k'.far.at ≡ there) × (k'.far.run ≡ k.far.run + 1)). omega (arith, p.1, q.1))
+        (λ (q : (k'.far.at ≡ there → ⊥) × (k'.far.run ≡ k.far.run)). omega (arith, p.1, q.1))
         t.theirs)
-        (λ (p : (k'.a ≡ here → ⊥) × (k'.i ≡ k.i)).
+        (λ (p : (k'.near.at ≡ here → ⊥) × (k'.near.run ≡ k.near.run)).
         ⊎_elim
-        (λ (q : (k'.b ≡ there) × (k'.j ≡ k.j + 1)). omega (arith, p.1, q.1))
-        (λ (q : (k'.b ≡ there → ⊥) × (k'.j ≡ k.j)).
-        absurd (stuck k.a k.b refl refl (omega arith) (omega arith) p.0 q.0))
+        (λ (q : (k'.far.at ≡ there) × (k'.far.run ≡ k.far.run + 1)). omega (arith, p.1, q.1))
+        (λ (q : (k'.far.at ≡ there → ⊥) × (k'.far.run ≡ k.far.run)).
+        absurd (stuck k.near.at k.far.at refl refl (omega arith) (omega arith) p.0 q.0))
         t.theirs)
         t.ours
 
@@ -180,39 +182,26 @@ less-left p q i j i' j' less a b = omega arith
 -- A walk that set out at k₀ has come to k.
 pub record Sweeping (y : Way) (k₀ : Walk) (out₀ : List ℕ) (k : Walk) (out : List ℕ) : Type 0 where
   pub long : length out ≡ length out₀
-  pub level : k.a + k₀.b ≡ k₀.a + k.b
-  pub few : k.n + off k.n k.s y.need + k₀.i + k₀.j ≤ k₀.n + off k₀.n k₀.s y.need + k.i + k.j
-  pub thin : k.n + k₀.a ≤ k₀.n + k.a
-  pub ours : k.i ≤ length y.runs + 1
-  pub theirs : k.j ≤ length y.part + 1
+  pub level : k.near.at + k₀.far.at ≡ k₀.near.at + k.far.at
+  pub few : k.n + off k.n k.s y.need + k₀.near.run + k₀.far.run ≤ k₀.n + off k₀.n k₀.s y.need + k.near.run + k.far.run
+  pub thin : k.n + k₀.near.at ≤ k₀.n + k.near.at
+  pub ours : k.near.run ≤ length y.runs + 1
+  pub theirs : k.far.run ≤ length y.part + 1
   pub some : Walks y k out
   pub each : (u : Subset) → Walked y k₀ out₀ u → Walked y k out u
 
 -- What a stretch of m ticks asks.
 pub record Ready (y : Way) (k : Walk) (out : List ℕ) (m : ℕ) : Type 0 where
-  pub on : k.a + m ≤ y.w
-  pub over : k.b + m ≤ y.stop
-  pub slope : Slope k.s m (k.i % 2) (k.j % 2)
+  pub on : k.near.at + m ≤ y.w
+  pub over : k.far.at + m ≤ y.stop
+  pub slope : Slope k.s m (k.near.run % 2) (k.far.run % 2)
   pub room : k.n + min m 2 ≤ length out
-
-pub sweeping-start : (y : Way) (k : Walk) (out : List ℕ) → Outset y k out → Sweeping y k out k out
-sweeping-start y k out o =
-    record {
-      long = refl;
-      level = refl;
-      few = le_refl _;
-      thin = omega arith;
-      ours = o.ours;
-      theirs = o.theirs;
-      some = o.walks;
-      each = λ u g. g;
-    }
 
 module _ {y : Way} {k₀ : Walk} {out₀ : List ℕ} {k : Walk} {out : List ℕ} (g : Sweeping y k₀ out₀ k out) where
   pub sweeping-known : Known y k
   sweeping-known = walks-known y k out g.some
 
-  pub sweeping-end : y.stop ≤ k.b → Swept y k₀ out₀ k out
+  pub sweeping-end : y.stop ≤ k.far.at → Swept y k₀ out₀ k out
   sweeping-end end =
       let h = sweeping-known in
       record {
@@ -226,23 +215,23 @@ module _ {y : Way} {k₀ : Walk} {out₀ : List ℕ} {k : Walk} {out : List ℕ}
         each = g.each;
       }
 
-  module _ (o : Outset y k₀ out₀) (less : k.b < y.stop) where
+  module _ (o : Outset y k₀ out₀) (less : k.far.at < y.stop) where
     -- Both cursors are within their lists.
-    pub sweeping-ours : k.i ≤ length y.runs
+    pub sweeping-ours : k.near.run ≤ length y.runs
     sweeping-ours =
-        cursor-inside y.runs y.w k.i k.a sweeping-known.near.low (omega (arith, g.level, o.level))
+        cursor-inside y.runs y.w k.near.run k.near.at sweeping-known.near.low (omega (arith, g.level, o.level))
 
-    pub sweeping-theirs : k.j ≤ length y.part
-    sweeping-theirs = cursor-inside y.part y.stop k.j k.b sweeping-known.far.low less
+    pub sweeping-theirs : k.far.run ≤ length y.part
+    sweeping-theirs = cursor-inside y.part y.stop k.far.run k.far.at sweeping-known.far.low less
 
     pub sweeping-ready :
-        (here there m : ℕ) → here ≡ edge y.runs y.w (suc k.i) → there ≡ edge y.part y.stop (suc k.j)
-        → m ≡ min (here - k.a) (there - k.b) → Ready y k out m
+        (here there m : ℕ) → here ≡ edge y.runs y.w (suc k.near.run) → there ≡ edge y.part y.stop (suc k.far.run)
+        → m ≡ min (here - k.near.at) (there - k.far.at) → Ready y k out m
     sweeping-ready here there m near far first =
         let h = sweeping-known in
-        let here' : k.a + m ≤ here = let e = h.near.high in omega arith in
-        let there' : k.b + m ≤ there = let e = h.far.high in omega arith in
-        let on : k.a + m ≤ y.w = let e = h.most in omega arith in
+        let here' : k.near.at + m ≤ here = let e = h.near.high in omega arith in
+        let there' : k.far.at + m ≤ there = let e = h.far.high in omega arith in
+        let on : k.near.at + m ≤ y.w = let e = h.most in omega arith in
         let i = sweeping-ours in
         let j = sweeping-theirs in
         record {
@@ -256,9 +245,9 @@ module _ {y : Way} {k₀ : Walk} {out₀ : List ℕ} {k : Walk} {out : List ℕ}
           };
           room =
               ⊎_elim
-              (λ (few : k₀.n + off k₀.n k₀.s y.need + (length y.runs + 1) + (length y.part + 1) ≤ length out₀ + k₀.i + k₀.j).
+              (λ (few : k₀.n + off k₀.n k₀.s y.need + (length y.runs + 1) + (length y.part + 1) ≤ length out₀ + k₀.near.run + k₀.far.run).
               omega (arith, g.few, g.long))
-              (λ (thin : k₀.n + y.w ≤ length out₀ + k₀.a). omega (arith, g.thin, g.long))
+              (λ (thin : k₀.n + y.w ≤ length out₀ + k₀.near.at). omega (arith, g.thin, g.long))
               o.room;
         }
 
@@ -278,8 +267,8 @@ module _ {y : Way} {k₀ : Walk} {out₀ : List ℕ} {k : Walk} {out : List ℕ}
           }
 
       pub sweeping-less :
-          length y.runs + 1 - k'.i + (length y.part + 1 - k'.j) < length y.runs + 1 - k.i + (length y.part + 1 - k.j)
+          length y.runs + 1 - k'.near.run + (length y.part + 1 - k'.far.run) < length y.runs + 1 - k.near.run + (length y.part + 1 - k.far.run)
       sweeping-less =
           let moves = step-moves y k out here there m k' out' t sweeping-known in
           let next = sweeping-next in
-          less-left (length y.runs + 1) (length y.part + 1) k.i k.j k'.i k'.j moves.0 next.ours next.theirs
+          less-left (length y.runs + 1) (length y.part + 1) k.near.run k.far.run k'.near.run k'.far.run moves.0 next.ours next.theirs

@@ -1,51 +1,12 @@
--- What a constructor answers, and what is known of a value that was made. Assumes nothing.
+-- What is known of numbers with no refusal, so of a value that was made. Assumes nothing.
 use mathlib.Core.Path.{◌≡◌}
-use mathlib.Core.Logic.{⊎_elim}
 use Prim.Native.Nat.{ℕ, ◌*◌, ◌≤◌, ◌<◌}
 use native.Mathlib.Nat.{zero-lt-suc, mul-pos}
 use native.Mathlib.Omega.{arith}
 use borrow.Author.Tests.{ltb-false, eqb-false}
 use Rattle.limits.specs.Limits.{most_ticks, most_need, most_period, most_strips, most_in_rounds, most_granted}
-use Rattle.limits.specs.Limits.{wheel_refusal, task_refusal, rounds_refusal, grid_refusal, task_of, grid_of, made_wheel, made_task, made_grid, Within}
-use Rattle.limits.specs.declared.Wheel.{Wheel}
-use Rattle.limits.specs.declared.Task.{Task}
-use Rattle.limits.specs.declared.Grid.{Grid}
-use Rattle.limits.specs.declared.WheelMade.TheVariants as wheel_made
-use Rattle.limits.specs.declared.TaskMade.TheVariants as task_made
-use Rattle.limits.specs.declared.GridMade.TheVariants as grid_made
-use Rattle.limits.proofs.Refusals.{both-none, when-none, either, or-false, inside}
-
--- ---- a value that was made had no refusal and is the one asked for; a refused one has its number
-
--- One constructor is never the other.
-abbrev pub never : {A : Type 0} → ◌≡◌ {A = ℕ} 0 1 → A
-never z = absurd (omega arith)
-
-pub wheel-made : (w : ℕ) (x : Wheel) → made_wheel w ≡ wheel_made.Made x → (wheel_refusal w ≡ 0) × (x ≡ record { w = w })
-unfolding made_wheel
-wheel-made w x e = ⊎_elim (λ p. (p.0, cc)) (λ p. never (cc)) (either _ _ _ e)
-
-pub wheel-refused : (w n : ℕ) → made_wheel w ≡ wheel_made.Refused n → (n ≡ wheel_refusal w) × (n ≡ 0 → ⊥)
-unfolding made_wheel
-wheel-refused w n e = ⊎_elim (λ p. never (cc)) (λ p. (cc, λ z. p.0 (cc))) (either _ _ _ e)
-
-module _ (e D h m k : ℕ) where
-  pub task-made : (x : Task) → made_task e D h m k ≡ task_made.Made x → (task_refusal e D h m k ≡ 0) × (x ≡ task_of e D h m k)
-  unfolding made_task
-  task-made x q = ⊎_elim (λ p. (p.0, cc)) (λ p. never (cc)) (either _ _ _ q)
-
-  pub task-refused : (n : ℕ) → made_task e D h m k ≡ task_made.Refused n → (n ≡ task_refusal e D h m k) × (n ≡ 0 → ⊥)
-  unfolding made_task
-  task-refused n q = ⊎_elim (λ p. never (cc)) (λ p. (cc, λ z. p.0 (cc))) (either _ _ _ q)
-
-module _ (N v loss : ℕ) where
-  pub grid-made : (x : Grid) → made_grid N v loss ≡ grid_made.Made x → (grid_refusal N v loss ≡ 0) × (x ≡ grid_of N v loss)
-  unfolding made_grid
-  grid-made x e = ⊎_elim (λ p. (p.0, cc)) (λ p. never (cc)) (either _ _ _ e)
-
-  pub grid-refused : (n : ℕ) → made_grid N v loss ≡ grid_made.Refused n → (n ≡ grid_refusal N v loss) × (n ≡ 0 → ⊥)
-  unfolding made_grid
-  grid-refused n e = ⊎_elim (λ p. never (cc)) (λ p. (cc, λ z. p.0 (cc))) (either _ _ _ e)
+use Rattle.limits.specs.Limits.{wheel_refusal, task_refusal, rounds_refusal, grid_refusal, task_of, Within}
+use Rattle.limits.proofs.Refusals.{both-none, when-none, or-false, inside}
 
 -- ---- what no refusal means
 

@@ -19,6 +19,8 @@ pub when_false : (n : ℕ) (t : Bool) → t ≡ false → (n when t) ≡ 0
 unfolding ◌when◌
 when_false n t e = ap (λ x. n when x) e
 
+pub ruleset when_laws = (when_true, when_false)
+
 pub otherwise-none : (a b : ℕ) → a ≡ 0 → (a otherwise b) ≡ b
 unfolding ◌otherwise◌
 otherwise-none a b e = ap (λ x. x otherwise b) e
@@ -46,13 +48,6 @@ at_first a b x e n = e ∙ sym (otherwise-some a b (λ z. n (e ∙ z)))
 pub at_next : (a b x : ℕ) → a ≡ 0 → x ≡ b → x ≡ (a otherwise b)
 at_next a b x e f = f ∙ sym (otherwise-none a b e)
 
--- Calls that were given equal parts gave the whole.
-pub when-same : (n : ℕ) {x : ℕ} {s t : Bool} → x ≡ (n when s) → s ≡ t → x ≡ (n when t)
-when-same n e f = e ∙ ap (λ b. n when b) f
-
-pub otherwise_same : {x a b c d : ℕ} → x ≡ (a otherwise b) → a ≡ c → b ≡ d → x ≡ (c otherwise d)
-otherwise_same {x} {a} {b} {c} {d} e f g = e ∙ ap (λ n. n otherwise b) f ∙ ap (λ n. c otherwise n) g
-
 -- No refusal at all means that neither part gives one.
 pub both-none : (a b : ℕ) → (a otherwise b) ≡ 0 → (a ≡ 0) × (b ≡ 0)
 unfolding ◌otherwise◌
@@ -74,13 +69,6 @@ unfolding if_none
 none_right zero a b h = absurd (h refl)
 none_right (suc n) a b h = refl
 
--- An answer that holds a value where the number is 0, and else is the number's own.
-pub made-is : {A : Type 0} (a b : A) {n m : ℕ} → n ≡ m → n ≡ 0 → a ≡ if_none m a b
-made-is a b {n} {m} e z = sym (none_left m a b (sym e ∙ z))
-
-pub refused-is : {A : Type 0} (f : ℕ → A) (a : A) {n m : ℕ} → n ≡ m → (n ≡ 0 → ⊥) → f n ≡ if_none m a (f m)
-refused-is f a {n} {m} e bad = ap f e ∙ sym (none_right m a (f m) (λ z. bad (e ∙ z)))
-
 -- What `if_none` gives tells which of the two it was.
 pub either : {A : Type 0} (n : ℕ) (a b : A) {x : A} → if_none n a b ≡ x → ((n ≡ 0) × (a ≡ x)) ⊎ ((n ≡ 0 → ⊥) × (b ≡ x))
 unfolding if_none
@@ -95,19 +83,10 @@ pub or-false : (a b : Bool) → (a || b) ≡ false → (a ≡ false) × (b ≡ f
 or-false true b e = clash refl e
 or-false false b e = (refl, e)
 
--- Two numbers that must both be right, tested one after the other.
-module _ (n a x b y : ℕ) where
-  pub first-wrong : (a ≡ x → ⊥) → n ≡ (n when (not (eqb a x) || not (eqb b y)))
-  unfolding ◌when◌
-  first-wrong bad = sym (ap (λ c. n when (not c || not (eqb b y))) (ne_eqb a x bad))
-
-  pub next-wrong : a ≡ x → (b ≡ y → ⊥) → n ≡ (n when (not (eqb a x) || not (eqb b y)))
-  unfolding ◌when◌
-  next-wrong e bad = sym (ap (λ c. n when (not c || not (eqb b y))) (eq-eqb a x e) ∙ ap (λ c. n when not c) (ne_eqb b y bad))
-
-  pub both_right : a ≡ x → b ≡ y → 0 ≡ (n when (not (eqb a x) || not (eqb b y)))
-  unfolding ◌when◌
-  both_right e f = sym (ap (λ c. n when (not c || not (eqb b y))) (eq-eqb a x e) ∙ ap (λ c. n when not c) (eq-eqb b y f))
+-- Two numbers that are both right aren't refused.
+pub both_right : (n a x b y : ℕ) → a ≡ x → b ≡ y → 0 ≡ (n when (not (eqb a x) || not (eqb b y)))
+unfolding ◌when◌
+both_right n a x b y e f = sym (ap (λ c. n when (not c || not (eqb b y))) (eq-eqb a x e) ∙ ap (λ c. n when not c) (eq-eqb b y f))
 
 -- What passes the bound.
 pub inside : (x most : ℕ) → outside x most ≡ false → (0 < x) × (x ≤ most)
@@ -116,10 +95,6 @@ inside x most e =
     let p = or-false (eqb x 0) (ltb most x) e in
     let n : ¬ (x ≡ 0) = eqb-false x 0 p.0 in
     (omega arith, ltb-false most x p.1)
-
-pub outside-zero : (x most : ℕ) → x ≡ 0 → eqb x 0 ≡ outside x most
-unfolding outside
-outside-zero x most e = eq-eqb x 0 e ∙ sym (ap (λ b. b || ltb most x) (eq-eqb x 0 e))
 
 pub outside_above : (x most : ℕ) → (x ≡ 0 → ⊥) → ltb most x ≡ outside x most
 unfolding outside

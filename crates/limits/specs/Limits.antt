@@ -9,20 +9,13 @@
 --     grid_refusal N v loss        12 for a bad number or length of slots, or a loss above it
 --     task_of e D h m k            the task of these numbers
 --     grid_of N v loss             the slots of these numbers
---     made..                       what a constructor answers to these numbers: the value, or the number of the refusal
 --     asked t                      the rules' task of a task that was made
 --     Within t                     what the refusals 6 to 10 have shown of a task that was made
 use Rattle.std.specs.Prelude.{Bool, ◌||◌, ℕ, ◌*◌, ◌≤◌, ◌<◌, ltb, eqb}
 use Rattle.rules.specs.Supply as rules
-use Rattle.limits.specs.Refusal.{◌when◌, ◌otherwise◌, if_none}
+use Rattle.limits.specs.Refusal.{◌when◌, ◌otherwise◌}
 use Rattle.limits.specs.declared.Task.{Task}
 use Rattle.limits.specs.declared.Grid.{Grid}
-use Rattle.limits.specs.declared.WheelMade.{WheelMade}
-use Rattle.limits.specs.declared.TaskMade.{TaskMade}
-use Rattle.limits.specs.declared.GridMade.{GridMade}
-use Rattle.limits.specs.declared.WheelMade.TheVariants as wheel_made
-use Rattle.limits.specs.declared.TaskMade.TheVariants as task_made
-use Rattle.limits.specs.declared.GridMade.TheVariants as grid_made
 
 abbrev pub most_ticks : ℕ
 most_ticks = 16384
@@ -74,19 +67,8 @@ grid_refusal N v loss = 12 when (outside N most_granted || eqb v 0 || ltb most_t
 abbrev pub task_of : ℕ → ℕ → ℕ → ℕ → ℕ → Task
 task_of e D h m k = record { e = e; d = D; h = h; m = m; k = k }
 
-unfoldable pub made_wheel : ℕ → WheelMade
-made_wheel w = if_none (wheel_refusal w) (wheel_made.Made (record { w = w })) (wheel_made.Refused (wheel_refusal w))
-
-unfoldable pub made_task : ℕ → ℕ → ℕ → ℕ → ℕ → TaskMade
-made_task e D h m k =
-    if_none (task_refusal e D h m k) (task_made.Made (task_of e D h m k)) (task_made.Refused (task_refusal e D h m k))
-
 abbrev pub grid_of : ℕ → ℕ → ℕ → Grid
 grid_of N v loss = record { n = N; v = v; loss = loss }
-
-unfoldable pub made_grid : ℕ → ℕ → ℕ → GridMade
-made_grid N v loss =
-    if_none (grid_refusal N v loss) (grid_made.Made (grid_of N v loss)) (grid_made.Refused (grid_refusal N v loss))
 
 abbrev pub asked : Task → rules.Task
 asked t = record { e = t.e; D = t.d; h = t.h; m = t.m; k = t.k }

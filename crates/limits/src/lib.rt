@@ -2,19 +2,52 @@
 
 // The bounds of wheel, task and grant, each a constant of what it limits, with constructors that refuse. A refusal is its number in docs/RULES.md.
 ghost use Rattle.std.specs.Prelude.{◌≡◌};
-ghost use Rattle.limits.specs.Refusal.{◌when◌, ◌otherwise◌};
-ghost use Rattle.limits.specs.Limits.{outside, id_refusal, wheel_refusal, task_refusal, rounds_refusal, grid_refusal, made_wheel, made_task, made_grid};
+ghost use Rattle.limits.specs.Refusal.{◌when◌, number, Checks};
+ghost use Rattle.limits.specs.Limits.{outside, id_refusal, wheel_refusal, task_refusal, task_of, rounds_refusal, grid_refusal, grid_of};
+
+// What a call refuses, by the number that docs/RULES.md gives it.
+#[derive(Clone, Copy, Debug, PartialEq, Eq)]
+pub enum Refusal {
+    Sizes = 1,
+    Reply = 2,
+    Range = 3,
+    Wheel = 4,
+    Need = 6,
+    Period = 7,
+    Deadline = 8,
+    Strips = 9,
+    Painted = 10,
+    Offset = 11,
+    Grid = 12,
+    Loose = 13,
+    Slots = 14,
+    Empty = 15,
+    Past = 16,
+    Early = 17,
+    Loss = 18,
+    Owner = 19,
+}
+
+impl Refusal {
+    pub fn number(self) -> u32
+        ensures { result ≡ number self }
+    {
+        self as u32
+    }
+
+    // Refuses where the test passes.
+    #[tactic(auto, using(crate::proofs::Refusals::when_laws))]
+    pub fn when(self, test: bool) -> Result<(), Refusal>
+        ensures { Checks (number self when test) tt result }
+    {
+        if test { Err(self) } else { Ok(()) }
+    }
+}
 
 // A wheel that was accepted.
 #[derive(Clone, Copy)]
 pub struct Wheel {
     pub w: usize,
-}
-
-#[derive(Drop)]
-pub enum WheelMade {
-    Made(Wheel),
-    Refused(u32),
 }
 
 // What the art desk asks, accepted: e ticks for each strip within d, a strip every h ticks, at least m of any k painted.
@@ -27,24 +60,12 @@ pub struct Task {
     pub k: usize,
 }
 
-#[derive(Drop)]
-pub enum TaskMade {
-    Made(Task),
-    Refused(u32),
-}
-
 // The n equal slots of v ticks of a grant, accepted. Where the processor changes hands, a slot's first ticks go to the switch: the loss.
 #[derive(Clone, Copy)]
 pub struct Grid {
     pub n: usize,
     pub v: usize,
     pub loss: usize,
-}
-
-#[derive(Drop)]
-pub enum GridMade {
-    Made(Grid),
-    Refused(u32),
 }
 
 // Whether x is 0 or above `most`.
@@ -55,42 +76,19 @@ fn outside(x: usize, most: usize) -> bool
     x == 0 || most < x
 }
 
-// The number n where the test passes, 0 where it fails.
-pub fn when(n: u32, test: bool) -> u32
-    ensures { result ≡ (n when test) }
-{
-    if test { n } else { 0 }
-}
-
-// The first of two refusals that isn't 0.
-pub fn first(a: u32, b: u32) -> u32
-    ensures { result ≡ (a otherwise b) }
-{
-    if a == 0 { b } else { a }
-}
-
 impl Wheel {
     pub const MOST_TICKS: usize = 16384;
 
     // Slot records of a board, whoever owns them.
     pub const MOST_SLOTS: usize = 512;
 
-    fn refusal(w: usize) -> u32
-        ensures { result ≡ wheel_refusal w }
-    {
-        when(4, outside(w, Wheel::MOST_TICKS))
-    }
-
     // The wheel, or refusal 4.
-    pub fn new(w: usize) -> WheelMade
-        ensures { result ≡ made_wheel w }
+    #[tactic(auto, unfolding(crate::specs::Limits::wheel_refusal))]
+    pub fn new(w: usize) -> Result<Wheel, Refusal>
+        ensures { Checks (wheel_refusal w) (record { w = w }) result }
     {
-        let n = Wheel::refusal(w);
-        if n == 0 {
-            WheelMade::Made(Wheel { w })
-        } else {
-            WheelMade::Refused(n)
-        }
+        Refusal::Wheel.when(outside(w, Wheel::MOST_TICKS))?;
+        Ok(Wheel { w })
     }
 }
 
@@ -107,72 +105,49 @@ impl Task {
     // For the engine by whole rounds, whose work doesn't grow with them.
     pub const MOST_IN_ROUNDS: usize = 1_000_000;
 
-    // Refusal 19, or 0.
-    pub fn id_refusal(id: usize) -> u32
-        ensures { result ≡ id_refusal id }
+    // Refusal 19.
+    #[tactic(auto, unfolding(crate::specs::Limits::id_refusal))]
+    pub fn id_refusal(id: usize) -> Result<(), Refusal>
+        ensures { Checks (id_refusal id) tt result }
     {
-        when(19, Task::MOST_ID < id)
+        Refusal::Owner.when(Task::MOST_ID < id)
     }
 
-    fn refusal(e: usize, d: usize, h: usize, m: usize, k: usize) -> u32
-        ensures { result ≡ task_refusal e d h m k }
+    // Refusals 9 and 10 of the engine by whole rounds.
+    #[tactic(auto, using(crate::proofs::Checks::row), unfolding(crate::specs::Limits::rounds_refusal))]
+    pub fn rounds_refusal(m: usize, k: usize) -> Result<(), Refusal>
+        ensures { Checks (rounds_refusal m k) tt result }
     {
-        let last = first(when(9, outside(k, Task::MOST_STRIPS)), when(10, k < m));
-        let deadline = first(when(8, outside(d, h)), last);
-        first(
-            when(6, outside(e, Task::MOST_NEED)),
-            first(when(7, outside(h, Task::MOST_PERIOD)), deadline),
-        )
-    }
-
-    // Refusal 9 or 10 of the engine by whole rounds, or 0.
-    pub fn rounds_refusal(m: usize, k: usize) -> u32
-        ensures { result ≡ rounds_refusal m k }
-    {
-        first(when(9, outside(k, Task::MOST_IN_ROUNDS)), when(10, k < m))
+        Refusal::Strips.when(outside(k, Task::MOST_IN_ROUNDS))?;
+        Refusal::Painted.when(k < m)
     }
 
     // The task, or the first of the refusals 6 to 10.
-    pub fn new(e: usize, d: usize, h: usize, m: usize, k: usize) -> TaskMade
-        ensures { result ≡ made_task e d h m k }
+    #[tactic(auto, using(crate::proofs::Checks::row), unfolding(crate::specs::Limits::task_refusal))]
+    pub fn new(e: usize, d: usize, h: usize, m: usize, k: usize) -> Result<Task, Refusal>
+        ensures { Checks (task_refusal e d h m k) (task_of e d h m k) result }
     {
-        let n = Task::refusal(e, d, h, m, k);
-        if n == 0 {
-            TaskMade::Made(Task { e, d, h, m, k })
-        } else {
-            TaskMade::Refused(n)
-        }
+        Refusal::Need.when(outside(e, Task::MOST_NEED))?;
+        Refusal::Period.when(outside(h, Task::MOST_PERIOD))?;
+        Refusal::Deadline.when(outside(d, h))?;
+        Refusal::Strips.when(outside(k, Task::MOST_STRIPS))?;
+        Refusal::Painted.when(k < m)?;
+        Ok(Task { e, d, h, m, k })
     }
 }
 
 impl Grid {
     pub const MOST_SLOTS: usize = 64;
 
-    // The product is formed only where it can't wrap: a slot over the wheel's bound is refused before it.
-    fn refusal(n: usize, v: usize, loss: usize) -> u32
-        ensures { result ≡ grid_refusal n v loss }
+    // The n slots of v ticks, or refusal 12. The product is formed only where it can't wrap: a slot over the wheel's bound is refused before it.
+    #[tactic(auto, using(crate::proofs::Checks::grid_row))]
+    pub fn new(n: usize, v: usize, loss: usize) -> Result<Grid, Refusal>
+        ensures { Checks (grid_refusal n v loss) (grid_of n v loss) result }
     {
-        if outside(n, Grid::MOST_SLOTS) {
-            return 12;
-        }
-        if outside(v, Wheel::MOST_TICKS) {
-            return 12;
-        }
-        if v < loss {
-            return 12;
-        }
-        when(12, Wheel::MOST_TICKS < n * v)
-    }
-
-    // The n slots of v ticks, or refusal 12.
-    pub fn new(n: usize, v: usize, loss: usize) -> GridMade
-        ensures { result ≡ made_grid n v loss }
-    {
-        let bad = Grid::refusal(n, v, loss);
-        if bad == 0 {
-            GridMade::Made(Grid { n, v, loss })
-        } else {
-            GridMade::Refused(bad)
-        }
+        Refusal::Grid.when(outside(n, Grid::MOST_SLOTS))?;
+        Refusal::Grid.when(outside(v, Wheel::MOST_TICKS))?;
+        Refusal::Grid.when(v < loss)?;
+        Refusal::Grid.when(Wheel::MOST_TICKS < n * v)?;
+        Ok(Grid { n, v, loss })
     }
 }

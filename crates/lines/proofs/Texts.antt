@@ -1,14 +1,13 @@
 -- Texts put into a buffer one behind the other. Assumes nothing.
 use mathlib.Core.Path.{◌≡◌, refl, sym, ap, ◌∙◌}
 use mathlib.Core.Bool.{Bool, true, false}
-use mathlib.Core.List.{List, [], ◌∷◌, ◌++◌, append_assoc, append-nil}
-use Prim.Native.Nat.{ℕ, ◌+◌, ◌-◌, ◌≤◌, ◌<◌}
+use mathlib.Core.List.{List, [], ◌++◌, append_assoc, append-nil}
+use Prim.Native.Nat.{ℕ, ◌+◌, ◌-◌, ◌≤◌}
 use native.Mathlib.Nat.{add-zero}
-use native.Mathlib.Numerals.{add-one}
 use native.Mathlib.Omega.{arith}
 use lib.Dec.{leb}
-use lib.ListN.{length, take, drop, set, take-append-drop, length-append, length-drop}
-use lib.Seq.{set_split, drop-drop, take_at, drop_at, length-take-le, take_all, drop-length}
+use lib.ListN.{length, take, drop, take-append-drop, length-append, length-drop}
+use lib.Seq.{drop-drop, take_at, drop_at, length-take-le, take_all, drop-length}
 use borrow.Author.Tests.{eq-eqb, ne_eqb}
 use Rattle.octets.specs.Octets.{over}
 use Rattle.records.specs.Records.{reply_bytes}
@@ -17,17 +16,6 @@ use Rattle.lines.specs.Lines.{longest_line, line_of, placed, fitting, line_for, 
 pub put-none : (b : List ℕ) (at : ℕ) → Put [] b at at b
 unfolding placed over
 put-none b at = record { behind = sym (add-zero at); bytes = sym (take-append-drop at b) }
-
-pub put_byte : (b : List ℕ) (at x : ℕ) → at < length b → Put (x ∷ []) b at (at + 1) (set b at x)
-unfolding placed over
-put_byte b at x l =
-    record {
-      behind = refl;
-      bytes =
-          set_split b at x l
-          ∙ ap (λ n. take at b ++ (x ∷ drop n b)) (sym (add-one at))
-          ∙ ap (λ r. take at b ++ (x ∷ r)) (sym (drop-drop 1 at b));
-    }
 
 module _ (a t b : List ℕ) (at : ℕ) (l : at ≤ length b) where
   head-length : length (take at b ++ a) ≡ at + length a

@@ -1,17 +1,13 @@
 #![tactic(auto)]
 
 // Lines of the printed sheet, put into a buffer at a place. Each function gives the place behind what it put.
-ghost use Rattle.std.specs.Prelude.{◌≡◌, [], ◌∷◌, ◌+◌, ◌≤◌, ◌<◌, leb, length};
-ghost use Rattle.octets.specs.Octets.{le2, le4};
+ghost use Rattle.std.specs.Prelude.{◌≡◌, ◌+◌, ◌≤◌, ◌<◌, leb, length};
 ghost use Rattle.records.specs.Records.{reply_bytes};
-ghost use Rattle.lines.specs.Lines.{longest_four, longest_two, longest_line, refused_long};
+ghost use Rattle.lines.specs.Lines.{longest_line, refused_long};
 ghost use Rattle.lines.specs.Lines.{decimal, field, line_of, refused_line, fitting, line_for, Put};
 
+use itoa::Buffer;
 use records::answer::Answer;
-
-const SPACE: u8 = 32;
-
-const NEWLINE: u8 = 10;
 
 // Ten digits for four bytes, five for two, and the byte behind each.
 const LONGEST_FOUR: usize = 11;
@@ -23,59 +19,21 @@ pub const LONGEST: usize = 3 * LONGEST_FOUR + 2 * LONGEST_TWO;
 // The line of what isn't a whole record.
 pub const REFUSED: usize = 10;
 
-fn byte(b: u8, out: &mut [u8], at: usize) -> usize
-    requires { at < length out.old }
-    ensures { Put (b ∷ []) out.old at result out.new }
+fn put(text: &[u8], out: &mut [u8], at: usize) -> usize
+    requires { at + length text.now ≤ length out.old }
+    ensures { Put text.now out.old at result out.new }
 {
-    out[at] = b;
-    at + 1
+    octets::put(&mut out[at..], text);
+    at + text.len()
 }
 
-// A number in decimal: what its last digit leaves, then that digit.
-fn number(n: usize, out: &mut [u8], at: usize) -> usize
-    requires { at + length (decimal n) ≤ length out.old }
-    ensures { Put (decimal n) out.old at result out.new }
-{
-    if n < 10 {
-        return byte(48 + n as u8, out, at);
-    }
-    let next = number(n / 10, out, at);
-    byte(48 + (n % 10) as u8, out, next)
-}
-
-// A number and the byte behind it.
-fn stopped(n: usize, stop: u8, out: &mut [u8], at: usize) -> usize
+// A number in decimal and the byte behind it.
+fn field(n: usize, stop: u8, out: &mut [u8], at: usize) -> usize
     requires { at + length (decimal n) < length out.old }
     ensures { Put (field n stop) out.old at result out.new }
 {
-    let next = number(n, out, at);
-    byte(stop, out, next)
-}
-
-// Whether n bytes fit from place `at` on. No sum is formed, so none wraps.
-fn fits(n: usize, len: usize, at: usize) -> bool
-    ensures { result ≡ leb (at + n) len }
-{
-    if len < n {
-        return false;
-    }
-    at <= len - n
-}
-
-// The number in four bytes of an answer record: ten digits at most, and the byte behind them.
-fn four(answer: &[u8], i: usize, stop: u8, out: &mut [u8], at: usize) -> usize
-    requires { (i + 4 ≤ length answer.now) × (at + longest_four ≤ length out.old) }
-    ensures { Put (field (le4 answer.now i) stop) out.old at result out.new × (result ≤ at + longest_four) }
-{
-    stopped(octets::four(answer, i), stop, out, at)
-}
-
-// The number in two bytes: five digits at most.
-fn two(answer: &[u8], i: usize, stop: u8, out: &mut [u8], at: usize) -> usize
-    requires { (i + 2 ≤ length answer.now) × (at + longest_two ≤ length out.old) }
-    ensures { Put (field (le2 answer.now i) stop) out.old at result out.new × (result ≤ at + longest_two) }
-{
-    stopped(octets::two(answer, i), stop, out, at)
+    let next = put(Buffer::new().format(n).as_bytes(), out, at);
+    put(&[stop], out, next)
 }
 
 // The five numbers of an answer record, single spaces between, and the line's end.
@@ -83,11 +41,18 @@ fn fields(answer: &[u8], out: &mut [u8], at: usize) -> usize
     requires { (length answer.now ≡ reply_bytes) × (at + longest_line ≤ length out.old) }
     ensures { Put (line_of answer.now) out.old at result out.new × (result ≤ at + longest_line) }
 {
-    let refusal = four(answer, 0, SPACE, out, at);
-    let firm = two(answer, 4, SPACE, out, refusal);
-    let count = two(answer, 6, SPACE, out, firm);
-    let offset = four(answer, 8, SPACE, out, count);
-    four(answer, 12, NEWLINE, out, offset)
+    let refusal = field(octets::four(answer, 0), b' ', out, at);
+    let firm = field(octets::two(answer, 4), b' ', out, refusal);
+    let count = field(octets::two(answer, 6), b' ', out, firm);
+    let offset = field(octets::four(answer, 8), b' ', out, count);
+    field(octets::four(answer, 12), b'\n', out, offset)
+}
+
+// Whether n bytes fit from place `at` on. No sum is formed, so none wraps.
+fn fits(n: usize, len: usize, at: usize) -> bool
+    ensures { result ≡ leb (at + n) len }
+{
+    n <= len && at <= len - n
 }
 
 // The line of an answer record, or nothing where `answer` isn't one or the longest line wouldn't fit.
@@ -110,6 +75,5 @@ pub fn refused(out: &mut [u8], at: usize) -> usize
     if !fits(REFUSED, out.len(), at) {
         return at;
     }
-    octets::put(&mut out[at..], b"- 1 0 0 0\n");
-    at + REFUSED
+    put(b"- 1 0 0 0\n", out, at)
 }

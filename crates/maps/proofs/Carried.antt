@@ -2,15 +2,18 @@
 --
 -- In order: places; the strips counted so far; whole turns; four at once. Assumes nothing.
 use mathlib.Core.Path.{◌≡◌, refl, sym, ap, ◌∙◌}
-use mathlib.Core.List.{List}
-use Prim.Native.Nat.{ℕ, ◌+◌, ◌-◌, ◌*◌, ◌/◌, ◌%◌, ◌≤◌, ◌<◌, zero-le}
-use native.Mathlib.Nat.{add-zero, zero-add, zero-mul, one-mul, add-mul, mod-le, mod-lt, mod-eq_of_lt}
-use native.Mathlib.Nat.{add-mod, div-add-mod', mul-le-mul, le_antisymm}
+use mathlib.Core.Logic.{⊎_elim}
+use mathlib.Core.List.{List, [], ◌∷◌}
+use Prim.Native.Nat.{ℕ, zero, suc, ◌+◌, ◌-◌, ◌*◌, ◌/◌, ◌%◌, ◌≤◌, ◌<◌, zero-le}
+use native.Mathlib.Nat.{add-zero, zero-add, zero-mul, one-mul, add-mul, mod-lt, mod-eq_of_lt}
+use native.Mathlib.Numerals.{add-one}
+use native.Mathlib.Nat.{eq-or-lt_of_le, le_of_suc-le-suc, add-mod, div-add-mod'}
 use native.Mathlib.Omega.{arith}
-use lib.ListN.{length, get_or}
-use Rattle.limits.specs.Limits.{most_period, most_strips}
+use lib.ListN.{length, get_or, take, set, length-set}
+use lib.Seq.{length-take-le, get_or-set_same, get_or-set_other}
+use Rattle.std.proofs.lemmas.List.{get_or-take}
 use Rattle.maps.specs.Maps.{strips, fallen, Sized}
-use Rattle.maps.proofs.Strips.{strips-add, strips-rounds, strips-most, fallen-none, fallen-more, fallen-most}
+use Rattle.maps.proofs.Strips.{strips-add, strips-rounds, strips-most, fallen-none, fallen-more}
 
 -- ---- places
 
@@ -43,40 +46,28 @@ at_on {w} {h} {p} {i} {n} j e here step on =
 
 -- The first i strips from p on are counted.
 pub record Counting (m : List ℕ) (h k p met i : ℕ) : Type 0 where
+  pub sized : Sized m h k
   pub count : met ≡ fallen m h i p
+  pub few : met ≤ i
   pub some : i ≤ k
 
-count-start : (m : List ℕ) (h k p : ℕ) → Counting m h k p 0 0
-count-start m h k p = record { count = sym (fallen-none m h p); some = zero-le }
+count-start : {m : List ℕ} {h k : ℕ} (p : ℕ) → Sized m h k → Counting m h k p 0 0
+count-start {m} {h} p sized = record { sized = sized; count = sym (fallen-none m h p); few = zero-le; some = zero-le }
 
 -- One strip more.
 count_at :
-    {m : List ℕ} {h k p met i a b : ℕ} (j : ℕ) → i + 1 ≡ j → Counting m h k p met i → ¬ (i ≡ k) → At (length m) h p i a → b ≡ get_or m a 0
+    {m : List ℕ} {h k p met i a b : ℕ} (j : ℕ) → i + 1 ≡ j → j ≤ k → Counting m h k p met i → At (length m) h p i a → b ≡ get_or m a 0
     → Counting m h k p (met + b) j
-count_at {m} {h} {p = p} {i = i} j e c more at bit =
+count_at {m} {h} {p = p} {i = i} {a} j e more c at bit =
     let here = bit ∙ ap (λ a. get_or m a 0) at.place in
-    record { count = omega (arith, c.count, fallen-more m h i p, ap (λ n. fallen m h n p) e, here); some = omega (arith, c.some, more) }
-
-count-few : {m : List ℕ} {h k p met i : ℕ} → Sized m h k → Counting m h k p met i → met ≤ i
-count-few {m} {h} {p = p} {i = i} sized c = omega (arith, c.count, fallen-most m h i p sized.bits)
-
-pub count-end :
-    {m : List ℕ} {h k p met i : ℕ} → Sized m h k → Counting m h k p met i → k ≤ i → (met ≡ fallen m h k p) × (met ≤ k)
-count-end {m} {h} {k} {p} sized c end =
-    let e : _ ≡ k = le_antisymm c.some end in
-    (c.count ∙ ap (λ n. fallen m h n p) e, omega (arith, count-few sized c, e))
+    record {
+      sized = c.sized;
+      count = omega (arith, c.count, fallen-more m h i p, ap (λ n. fallen m h n p) e, here);
+      few = omega (arith, c.few, c.sized.bits a);
+      some = more;
+    }
 
 -- ---- whole turns
-
--- How far the strips that are left over go is a number that fits.
-pub far-fits : {m : List ℕ} {h k : ℕ} → Sized m h k → k % length m * h ≤ most_strips * most_period
-far-fits {m} {k = k} sized =
-    let few : k % length m ≤ most_strips = omega (arith, mod-le k (length m), sized.strips) in
-    mul-le-mul few sized.period
-
-pub sized-fewer : {m : List ℕ} {h k i : ℕ} → Sized m h k → i ≤ k → Sized m h i
-sized-fewer sized less =
-    record { some = sized.some; most = sized.most; period = sized.period; strips = omega (arith, sized.strips); bits = sized.bits }
 
 -- The strips that are left over beside whole turns and the others of a turn make them all.
 pub turned :
@@ -97,65 +88,77 @@ turned {m} {h} {k} p {left} {others} sized here there =
 
 -- ---- four at once
 
--- The first i strips from p on are counted, the next four are at a to d, and four strips go as far as `four`.
-pub record Carried (m : List ℕ) (h k p four met i a b c d : ℕ) : Type 0 where
-  pub sized : Sized m h k
-  pub counting : Counting m h k p met i
-  pub few : met ≤ i
+-- The first i + j strips from p on are counted. Of the four places the first j have gone on four strips from strips i on, the others are where
+-- those arrive, and four strips go as far as `four`.
+pub record Carried (m : List ℕ) (h k p four met i j : ℕ) (l : List ℕ) : Type 0 where
+  pub counting : Counting m h k p met (i + j)
   pub step : At (length m) h 0 4 four
-  pub first : At (length m) h p i a
-  pub second : At (length m) h p (i + 1) b
-  pub third : At (length m) h p (i + 2) c
-  pub fourth : At (length m) h p (i + 3) d
+  pub long : length l ≡ 4
+  pub ahead : (x : ℕ) → x < j → At (length m) h p (i + 4 + x) (get_or l x 0)
+  pub here : (x : ℕ) → j ≤ x → x < 4 → At (length m) h p (i + x) (get_or l x 0)
+
+places-four :
+    {w h p b c d : ℕ} → At w h p 0 p → At w h p 1 b → At w h p 2 c → At w h p 3 d
+    → (x : ℕ) → x < 4 → At w h p x (get_or (p ∷ b ∷ c ∷ d ∷ []) x 0)
+places-four first second third fourth zero less = first
+places-four first second third fourth (suc zero) less = second
+places-four first second third fourth (suc (suc zero)) less = third
+places-four first second third fourth (suc (suc (suc zero))) less = fourth
+places-four first second third fourth (suc (suc (suc (suc x)))) less = absurd (omega arith)
 
 pub carried-start :
     {m : List ℕ} {h k p two four b c d : ℕ} → Sized m h k → p < length m → On (length m) (h % length m) (h % length m) two
     → On (length m) two two four → On (length m) p (h % length m) b → On (length m) p two c → On (length m) b two d
-    → Carried m h k p four 0 0 p b c d
+    → Carried m h k p four 0 0 0 (p ∷ b ∷ c ∷ d ∷ [])
 carried-start {m} {h} {k} {p} sized inside to-two to-four to-b to-c to-d =
     let one = at-step h sized.some in
     let two = at_on 2 refl one one to-two in
     let first = at_first h inside in
     let second = at_on 1 refl first one to-b in
+    let places = places-four first second (at_on 2 refl first two to-c) (at_on 3 refl second two to-d) in
     record {
-      sized = sized;
-      counting = count-start m h k p;
-      few = zero-le;
+      counting = count-start p sized;
       step = at_on 4 refl two two to-four;
-      first = first;
-      second = second;
-      third = at_on 2 refl first two to-c;
-      fourth = at_on 3 refl second two to-d;
+      long = refl;
+      ahead = λ x less. absurd (omega arith);
+      here = λ x low high. rw zero-add (places x high);
     }
 
--- Strips of the next four, as far as there are any.
-module _ {m : List ℕ} {h k p four met i a b c d : ℕ} (r : Carried m h k p four met i a b c d) where
-  pub one_more : {x : ℕ} → ¬ (i ≡ k) → x ≡ get_or m a 0 → Counting m h k p (met + x) (i + 1)
-  one_more less x = count_at (i + 1) refl r.counting less r.first x
-
-  pub two-more :
-      {x y : ℕ} → ¬ (i ≡ k) → ¬ (i + 1 ≡ k) → x ≡ get_or m a 0 → y ≡ get_or m b 0 → Counting m h k p (met + x + y) (i + 2)
-  two-more less less-2 x y = count_at (i + 2) (omega arith) (one_more less x) less-2 r.second y
-
-  pub three-more :
-      {x y z : ℕ} → ¬ (i ≡ k) → ¬ (i + 1 ≡ k) → ¬ (i + 2 ≡ k) → x ≡ get_or m a 0 → y ≡ get_or m b 0 → z ≡ get_or m c 0
-      → Counting m h k p (met + x + y + z) (i + 3)
-  three-more less less-2 less-3 x y z = count_at (i + 3) (omega arith) (two-more less less-2 x y) less-3 r.third z
-
+module _ {m : List ℕ} {h k p four met i j : ℕ} {l : List ℕ} (r : Carried m h k p four met i j l) where
+  -- The next strip is counted, and its place goes on.
   pub carried-next :
-      {x y z v a' b' c' d' : ℕ} → i + 4 ≤ k → x ≡ get_or m a 0 → y ≡ get_or m b 0 → z ≡ get_or m c 0 → v ≡ get_or m d 0
-      → On (length m) a four a' → On (length m) b four b' → On (length m) c four c' → On (length m) d four d'
-      → Carried m h k p four (met + x + y + z + v) (i + 4) a' b' c' d'
-  carried-next left x y z v to-a to-b to-c to-d =
-      let three = three-more (λ n. omega arith) (λ n. omega arith) (λ n. omega arith) x y z in
-      let all = count_at (i + 4) (omega arith) three (λ n. omega arith) r.fourth v in
+      {x a : ℕ} → i + 4 ≤ k → j < 4 → x ≡ get_or m (get_or l j 0) 0 → On (length m) (get_or l j 0) four a
+      → Carried m h k p four (met + x) i (j + 1) (set l j a)
+  carried-next {x} {a} some less bit on =
+      let at = r.here j (omega arith) less in
       record {
-        sized = r.sized;
-        counting = all;
-        few = count-few r.sized all;
+        counting = count_at (i + (j + 1)) (omega arith) (omega arith) r.counting at bit;
         step = r.step;
-        first = at_on (i + 4) refl r.first r.step to-a;
-        second = at_on (i + 4 + 1) (omega arith) r.second r.step to-b;
-        third = at_on (i + 4 + 2) (omega arith) r.third r.step to-c;
-        fourth = at_on (i + 4 + 3) (omega arith) r.fourth r.step to-d;
+        long = length-set l j a ∙ r.long;
+        ahead = λ y low.
+            ⊎_elim
+            (λ (e : y ≡ j).
+            let same : get_or (set l j a) y 0 ≡ a = rw e (get_or-set_same l j a 0 (omega (arith, r.long))) in
+            rw same (at_on (i + 4 + y) (omega arith) at r.step on))
+            (λ (before : y < j).
+            let other : get_or (set l j a) y 0 ≡ get_or l y 0 = get_or-set_other l j y a 0 (λ z. omega arith) in
+            rw other (r.ahead y before))
+            (eq-or-lt_of_le (le_of_suc-le-suc (rw add-one at low)));
+        here = λ y low high.
+            let other : get_or (set l j a) y 0 ≡ get_or l y 0 = get_or-set_other l j y a 0 (λ z. omega arith) in
+            rw other (r.here y (omega arith) high);
       }
+
+-- The strips that are left over beside whole fours.
+module _ {m : List ℕ} {h k p four met i : ℕ} {l : List ℕ} (r : Carried m h k p four met i 0 l) where
+  left-few : (n : ℕ) → n ≤ 3 → length (take n l) ≡ n
+  left-few n few = length-take-le n l (omega (arith, r.long))
+
+  -- One of them more.
+  pub count_left :
+      {n j x met' : ℕ} → i + n ≡ k → n ≤ 3 → j < length (take n l) → Counting m h k p met' (i + j)
+      → x ≡ get_or m (get_or (take n l) j 0) 0 → Counting m h k p (met' + x) (i + (j + 1))
+  count_left {n} {j} all few less so_far x =
+      let low : j < n = omega (arith, left-few n few) in
+      let at : At (length m) h p (i + j) (get_or (take n l) j 0) = rw get_or-take (r.here j (omega arith) (omega arith)) in
+      count_at (i + (j + 1)) (omega arith) (omega arith) so_far at x

@@ -4,56 +4,46 @@
 ghost use Rattle.std.specs.Prelude.{◌≡◌, ◌+◌, ◌%◌, ◌≤◌, ◌<◌, length};
 ghost use Rattle.limits.specs.Limits.{most_ticks};
 ghost use Rattle.rules.specs.Sums.{Subset};
-ghost use Rattle.runs.specs.Runs.{Laid, Runs};
+ghost use Rattle.runs.specs.Runs.{Laid};
 ghost use Rattle.maps.specs.Maps.{Drawn, Stretched, Sized, fallen};
 
+use runs::Ticks;
+
 // How many of the strips meet a 1 at most, and the first tick from which so many do.
-#[derive(Drop)]
+#[derive(Clone, Copy)]
 pub struct Crest {
     pub drops: u32,
     pub at: usize,
 }
 
-// A map's entry as a number.
-fn bit(x: u8) -> usize
-    ensures { (result ≡ x) × (result < 256) }
-{
-    x as usize
-}
-
-// One value in all ticks from `from` to `to`. As plain a loop as this becomes one call that sets memory.
+// One value in all ticks from `from` to `to`. As plain a loop as this becomes one call that sets memory; the library's fill takes twice as long where
+// runs are short.
 fn stretch(map: &mut [u8], from: usize, to: usize, value: u8)
     requires { to ≤ length map.old }
     ensures { Stretched map.old map.new from to value }
 {
-    let mut i = from;
-    while i < to {
-        map[i] = value;
-        i += 1;
+    for tick in from..to {
+        map[tick] = value;
     }
 }
 
-// Draws runs into the map: 1 in the ticks of the set, 0 in the others.
-pub fn draw(runs: &[u16], map: &mut [u8])
-    requires { Runs runs.now (length map.old) }
-    ensures { (length map.new ≡ length map.old) × ((z : Subset) → Laid runs.now (length map.old) z → Drawn map.new z) }
+// Draws runs into the map: 1 in the ticks of the set, 0 in the others. Run i is out of the set where i is even, in it
+// where i is odd; the last one ends at w.
+pub fn draw(runs: Ticks, map: &mut [u8])
+    requires { length map.old ≡ runs.w }
+    ensures { (length map.new ≡ length map.old) × ((z : Subset) → Laid runs.entry.edges.now runs.entry.w z → Drawn map.new z) }
 {
-    let w = map.len();
     let mut at = 0;
-    let mut i = 0;
-    while i < runs.len() {
-        let start = runs::end(runs, w, i);
-        let end = runs::end(runs, w, i + 1);
-        stretch(map, at, start, 0);
-        stretch(map, start, end, 1);
+    for (i, edge) in runs.edges.iter().enumerate() {
+        let end = usize::from(*edge);
+        stretch(map, at, end, (i % 2) as u8);
         at = end;
-        i += 2;
     }
-    stretch(map, at, w, 0);
+    stretch(map, at, runs.w, (runs.edges.len() % 2) as u8);
 }
 
 // How many of k strips from tick p on meet a 1. From strip to strip the place goes on by what the period leaves beside whole turns. Four
-// places go along, since none of them waits for another: a to d, where strips i to i + 3 arrive.
+// places go along, since none of them waits for another: those where the next four strips arrive.
 fn along(map: &[u8], p: usize, h: usize, k: usize) -> usize
     requires { Sized map.now h k × (p < length map.now) }
     ensures { (result ≡ fallen map.now h k p) × (result ≤ k) }
@@ -62,32 +52,19 @@ fn along(map: &[u8], p: usize, h: usize, k: usize) -> usize
     let s = h % w;
     let two = onward(s, s, w);
     let four = onward(two, two, w);
-    let mut a = p;
-    let mut b = onward(p, s, w);
-    let mut c = onward(p, two, w);
-    let mut d = onward(b, two, w);
+    let b = onward(p, s, w);
+    let mut places = [p, b, onward(p, two, w), onward(b, two, w)];
     let mut met = 0;
-    let mut i = 0;
-    while i + 4 <= k {
-        met = met + bit(map[a]) + bit(map[b]) + bit(map[c]) + bit(map[d]);
-        a = onward(a, four, w);
-        b = onward(b, four, w);
-        c = onward(c, four, w);
-        d = onward(d, four, w);
-        i += 4;
+    for _ in 0..k / 4 {
+        for place in &mut places {
+            met += usize::from(map[*place]);
+            *place = onward(*place, four, w);
+        }
     }
-    if i == k {
-        return met;
+    for last in &places[..k % 4] {
+        met += usize::from(map[*last]);
     }
-    met += bit(map[a]);
-    if i + 1 == k {
-        return met;
-    }
-    met += bit(map[b]);
-    if i + 2 == k {
-        return met;
-    }
-    met + bit(map[c])
+    met
 }
 
 // The same, with no more than w strips looked up. After w strips a place comes back: so they are those that are left over beside whole turns,

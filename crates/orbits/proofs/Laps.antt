@@ -207,13 +207,12 @@ orbits-none m s k r g = record { few = zero-le; highest = refl }
 -- What `lap` asks for.
 pub lap-asked :
     {m : List ℕ} {h k g c : ℕ} → Ring m h k → Gcd (length m) (h % length m) g → c < g
-    → Ring m (h % length m) (k % (length m / g)) × (c < length m) × (h % length m < length m) × (length m / g ≤ length m)
-    × (k % (length m / g) ≤ length m)
+    → (c < length m) × (length m / g ≤ length m) × (k % (length m / g) ≤ length m) × (k % (length m / g) ≤ k)
 lap-asked {m} {h} {k} {g} ring d less =
     let r = length m / g in
     let short = round-most d in
     let left = mod-lt k (round-some (length m) (h % length m) g ring.some d) in
-    (ring_of ring (mod-le k r), omega (arith, gcd-most d ring.some), mod-lt h ring.some, short, omega arith)
+    (omega (arith, gcd-most d ring.some), short, omega arith, mod-le k r)
 
 -- One orbit more: a round as often as it fits, and the largest rank of a window.
 module _

@@ -131,15 +131,6 @@ meet-next {l} {w} {g} {c} {n} {i} {start} {end} less m e f high low =
           omega (arith, m.count z laid, outside, inside, rises, here, last, ap (λ x. members z g c (passed g c (edge l w x))) two);
     }
 
--- The run's start is not past its end.
-pub meet-counted :
-    {l : List ℕ} {w g c n i start end a b : ℕ} → Runs l w → c < g → Meeting l w g c n i → start ≡ edge l w (suc i)
-    → end ≡ edge l w (suc (i + 1)) → a ≡ passed g c end → b ≡ passed g c start → b ≤ a
-unfolding Runs
-meet-counted {l} {w} {i = i} {start} {end} (z, laid) less m e f high low =
-    let there : end ≡ edge l w (suc (suc i)) = f ∙ ap (λ x. edge l w (suc x)) (add-one i) in
-    omega (arith, passed-rises less start end (omega (arith, laid.lay.order (suc i))))
-
 pub meet-end :
     {l : List ℕ} {w g c n i : ℕ} → c < g → g ∣ w → Meeting l w g c n i → length l ≤ i
     → (z : Subset) → Laid l w z → n ≡ members z g c (w / g)

@@ -16,10 +16,13 @@ use Rattle.rules.proofs.Sums.{le-or-lt}
 use Rattle.rules.proofs.Worst.{worst-unique}
 use Rattle.rules.proofs.Least.{least-unique}
 use Rattle.rules.proofs.Grants.{grant-unique}
+use Rattle.std.specs.Prelude.{Result, Ok, Err}
+use Rattle.limits.specs.Refusal.{refusal, given}
+use Rattle.limits.specs.declared.Refusal.{Refusal}
 use Rattle.limits.proofs.Refusals.{clash}
+use Rattle.limits.proofs.Checks.{number-some, number-injective}
 use Rattle.records.specs.Records.{task_record, answer_bytes, part}
 use Rattle.records.specs.Troubles.{about_slot, FirstAt, Placed}
-use Rattle.records.specs.declared.board.Trouble.{Trouble}
 use Rattle.judge.specs.Judge.{Judged, Answered}
 use Rattle.judge.specs.Points.{supplied_at, margin_at, counted_at}
 use Rattle.quick.specs.Quick.{Quick}
@@ -30,6 +33,21 @@ use Rattle.lines.specs.Lines.{line_of}
 use Rattle.sheets.specs.Sheets.{Row, Rows, none, more, Sheet, bad, rest}
 use Rattle.fiddlequill.specs.Packed.{packed}
 use Rattle.promises.specs.Settled.{JudgeSettled, RoundsJudgeSettled, SiteSettled, WhichSettled, PackedWhichSettled, PointSettled, PointsSettled, PackedPointSettled, PackedPointsSettled, RoundsCountSettled, PackedRoundsSettled, QuickSettled, PackedQuickSettled, GrantSettled, PackedSettled, LookupSettled, PutSettled, SheetSettled}
+
+-- Answers with one number and one value are one answer.
+module _ {A : Type 0} (d : A) where
+  pub same-answers : (r s : Result A Refusal) → (refusal r ≡ refusal s) × (given d r ≡ given d s) → r ≡ s
+  same-answers (Ok x) (Ok y) e = ap (λ z. Ok z) e.1
+  same-answers (Ok x) (Err b) e = absurd (number-some b (sym e.0))
+  same-answers (Err a) (Ok y) e = absurd (number-some a e.0)
+  same-answers (Err a) (Err b) e = ap (λ z. Err z) (number-injective a b e.0)
+
+-- Of a call that gives no value the number is all.
+pub same-refusals : (r s : Result (Unit {0}) Refusal) → refusal r ≡ refusal s → r ≡ s
+same-refusals (Ok x) (Ok y) e = refl
+same-refusals (Ok x) (Err b) e = absurd (number-some b (sym e))
+same-refusals (Err a) (Ok y) e = absurd (number-some a e)
+same-refusals (Err a) (Err b) e = ap (λ z. Err z) (number-injective a b e)
 
 -- Calls on equal buffers are calls on one.
 pub twice :
@@ -112,25 +130,22 @@ about-bad : (x : ℕ) → about_slot x ≡ true → x ≡ 0 → ⊥
 unfolding about_slot
 about-bad x about z = clash about (ap about_slot z)
 
-same_place : (x : ℕ) (f : ℕ → ℕ) (n : ℕ) (t t' : Trouble) → Placed x f n t → Placed x f n t' → t.place ≡ t'.place
-same_place x f n t t' a b = go (about_slot x) refl
+same_place : (x : ℕ) (f : ℕ → ℕ) (n t t' p p' : ℕ) → Placed x f n t p → Placed x f n t' p' → p ≡ p'
+same_place x f n t t' p p' a b = go (about_slot x) refl
   where
-    go : (about : Bool) → about_slot x ≡ about → t.place ≡ t'.place
+    go : (about : Bool) → about_slot x ≡ about → p ≡ p'
     go true e =
         let bad = about-bad x e in
         le_antisymm (first-le f n x _ _ bad (a.slot e) (b.slot e)) (first-le f n x _ _ bad (b.slot e) (a.slot e))
     go false e = a.none e ∙ sym (b.none e)
 
 pub which-settled : WhichSettled
-which-settled task slots t t' a b =
-    let number : t.number ≡ t'.number = a.number ∙ sym b.number in
-    let place : t.place ≡ t'.place = same_place _ _ _ t t' a b in
-    λ i. record { number = number i; place = place i }
+which-settled task slots n n' p p' a b = (a.number ∙ sym b.number, same_place _ _ _ n n' p p' a b)
 
 pub packed-which-settled : PackedWhichSettled
 packed-which-settled task slots r r' a b =
-    let same : a.trouble ≡ b.trouble = which-settled task slots _ _ a.call b.call in
-    a.result ∙ ap (λ (t : Trouble). packed t.number t.place) same ∙ sym b.result
+    let same = which-settled task slots _ _ _ _ a.call b.call in
+    a.result ∙ ap₂ packed same.0 same.1 ∙ sym b.result
 
 -- ---- the questions at a half tick
 

@@ -3,7 +3,6 @@
 use Rattle.std.specs.Prelude.{◌≡◌, Bool, List, ℕ}
 use Rattle.records.specs.Refusals.{point_refusal}
 use Rattle.lookup.specs.Lookup.{looked_up}
-use Rattle.records.specs.declared.board.Trouble.{Trouble}
 use Rattle.which.specs.Which.{Which}
 use Rattle.judge.specs.Judge.{Judged}
 use Rattle.octets.specs.Octets.{twos}
@@ -36,7 +35,8 @@ SiteSettled =
 
 -- which::which_slot: the number and the place.
 abbrev pub WhichSettled : Type 0
-WhichSettled = (task slots : List ℕ) (t t' : Trouble) → Which task slots t → Which task slots t' → t ≡ t'
+WhichSettled =
+    (task slots : List ℕ) (n n' p p' : ℕ) → Which task slots n p → Which task slots n' p' → (n ≡ n') × (p ≡ p')
 
 -- fiddlequill_which_slot: the packed number.
 abbrev pub PackedWhichSettled : Type 0

@@ -5,3 +5,10 @@ pub mod engines;
 pub mod others;
 pub mod read;
 pub mod twice;
+
+// What two calls gave.
+#[derive(Drop)]
+pub struct Pair<T> {
+    pub one: T,
+    pub other: T,
+}

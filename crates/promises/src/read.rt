@@ -11,10 +11,6 @@ ghost use Rattle.rounds.specs.Rounds.{rounds_point_refusal, rounds_counted_at};
 ghost use Rattle.grants.specs.Grants.{GrantCall};
 ghost use Rattle.promises.specs.Answers.{Told, RoundsTold, SiteTold, ReadAt};
 
-use judge::Measured;
-use quick::Verdict;
-use records::board::Trouble;
-
 // The number that judging gives, and the fields of the answer record.
 #[derive(Drop)]
 pub struct Answer {
@@ -27,24 +23,24 @@ pub struct Answer {
     pub margin: i32,
 }
 
-// The two numbers of a packed result.
+// The halves of a packed result: the refusal number, and what the other number says. C gets both, so both are promised, also beside a refusal.
 #[derive(Drop)]
-pub struct Pair {
+pub struct Halves<T> {
     pub number: u32,
-    pub value: u32,
+    pub value: T,
 }
 
 // What judging and the verdict alone say of one task.
 #[derive(Drop)]
 pub struct Pairing {
     pub judged: Answer,
-    pub verdict: Verdict,
+    pub verdict: Halves<bool>,
 }
 
-fn unpack(packed: u64) -> Pair
+fn unpack(packed: u64) -> Halves<u32>
     ensures { (result.number ≡ packed / 4294967296) × (result.value ≡ packed % 4294967296) }
 {
-    Pair {
+    Halves {
         number: (packed / 4294967296) as u32,
         value: (packed % 4294967296) as u32,
     }
@@ -99,51 +95,47 @@ pub fn site(tasks: &[u8], slots: &[u8], reply: &mut [u8], i: usize) -> Answer
     fields(number, reply, records::answer::Answer::BYTES * i)
 }
 
-pub fn which_slot(task: &[u8], slots: &[u8]) -> Trouble
-    ensures { Which task.now slots.now result }
+pub fn which_slot(task: &[u8], slots: &[u8]) -> Halves<u32>
+    ensures { Which task.now slots.now result.number result.value }
 {
-    let parts = unpack(fiddlequill::fiddlequill_which_slot(task, slots));
-    Trouble {
-        number: parts.number,
-        place: parts.value,
-    }
+    unpack(fiddlequill::fiddlequill_which_slot(task, slots))
 }
 
-pub fn supply(task: &[u8], slots: &[u8], offset: u64) -> Pair
+pub fn supply(task: &[u8], slots: &[u8], offset: u64) -> Halves<u32>
     ensures { (result.number ≡ point_refusal task.now slots.now offset) × (result.value ≡ supplied_at task.now slots.now offset) }
 {
     unpack(fiddlequill::fiddlequill_supply(task, slots, offset))
 }
 
-pub fn margin(task: &[u8], slots: &[u8], offset: u64) -> Measured
-    ensures { (result.number ≡ point_refusal task.now slots.now offset) × (result.margin ≡ margin_at task.now slots.now offset) }
+pub fn margin(task: &[u8], slots: &[u8], offset: u64) -> Halves<i32>
+    ensures { (result.number ≡ point_refusal task.now slots.now offset) × (result.value ≡ margin_at task.now slots.now offset) }
 {
     let parts = unpack(fiddlequill::fiddlequill_margin(task, slots, offset));
-    Measured {
+    Halves {
         number: parts.number,
-        margin: octets::signed(parts.value),
+        value: octets::signed(parts.value),
     }
 }
 
-pub fn count(task: &[u8], slots: &[u8], offset: u64) -> Pair
+pub fn count(task: &[u8], slots: &[u8], offset: u64) -> Halves<u32>
     ensures { (result.number ≡ point_refusal task.now slots.now offset) × (result.value ≡ counted_at task.now slots.now offset) }
 {
     unpack(fiddlequill::fiddlequill_count(task, slots, offset))
 }
 
-pub fn rounds_count(task: &[u8], slots: &[u8], offset: u64) -> Pair
+pub fn rounds_count(task: &[u8], slots: &[u8], offset: u64) -> Halves<u32>
     ensures { (result.number ≡ rounds_point_refusal task.now slots.now offset) × (result.value ≡ rounds_counted_at task.now slots.now offset) }
 {
     unpack(fiddlequill::fiddlequill_rounds_count(task, slots, offset))
 }
 
-pub fn quick(task: &[u8], slots: &[u8]) -> Verdict
-    ensures { Quick task.now slots.now result.number result.firm }
+pub fn quick(task: &[u8], slots: &[u8]) -> Halves<bool>
+    ensures { Quick task.now slots.now result.number result.value }
 {
     let parts = unpack(fiddlequill::fiddlequill_quick(task, slots));
-    Verdict {
+    Halves {
         number: parts.number,
-        firm: parts.value == 1,
+        value: parts.value == 1,
     }
 }
 
@@ -151,14 +143,23 @@ pub fn quick(task: &[u8], slots: &[u8]) -> Verdict
 pub fn both(task: &[u8], slots: &[u8], reply: &mut [u8]) -> Pairing
     requires { reply_bytes ≤ length reply.old }
     ensures same_number { result.judged.number ≡ result.verdict.number }
-    ensures same_verdict { (result.verdict.number ≡ 1 → ⊥) → result.judged.firm ≡ bit result.verdict.firm }
+    ensures same_verdict { (result.verdict.number ≡ 1 → ⊥) → result.judged.firm ≡ bit result.verdict.value }
 {
     let judged = judge(task, slots, reply);
     let verdict = quick(task, slots);
     Pairing { judged, verdict }
 }
 
-pub fn grant(marks: &mut [u8], v: u64, loss: u64, e: u64, d: u64, h: u64, m: u64, k: u64) -> Pair
+pub fn grant(
+    marks: &mut [u8],
+    v: u64,
+    loss: u64,
+    e: u64,
+    d: u64,
+    h: u64,
+    m: u64,
+    k: u64,
+) -> Halves<u32>
     ensures { GrantCall marks.old v loss e d h m k result.number result.value marks.new }
 {
     unpack(fiddlequill::fiddlequill_grant(marks, v, loss, e, d, h, m, k))

@@ -2,145 +2,105 @@
 ghost use Rattle.std.specs.Prelude.{◌≡◌};
 ghost use Rattle.lookup.specs.Lookup.{looked_up};
 
-use grants::Granted;
-use judge::{Counted, Measured, Supplied};
-use quick::Verdict;
+use crate::Pair;
+use limits::Refusal;
 use records::board::Trouble;
 use sheets::MOST_TEXT;
 
-#[derive(Drop)]
-pub struct Numbers {
-    pub one: u32,
-    pub other: u32,
-}
-
-#[derive(Drop)]
-pub struct Packed {
-    pub one: u64,
-    pub other: u64,
-}
-
-#[derive(Drop)]
-pub struct Places {
-    pub one: usize,
-    pub other: usize,
-}
-
-#[derive(Drop)]
-pub struct Troubles {
-    pub one: Trouble,
-    pub other: Trouble,
-}
-
-#[derive(Drop)]
-pub struct Supplies {
-    pub one: Supplied,
-    pub other: Supplied,
-}
-
-#[derive(Drop)]
-pub struct Margins {
-    pub one: Measured,
-    pub other: Measured,
-}
-
-#[derive(Drop)]
-pub struct Counts {
-    pub one: Counted,
-    pub other: Counted,
-}
-
-#[derive(Drop)]
-pub struct Verdicts {
-    pub one: Verdict,
-    pub other: Verdict,
-}
-
-#[derive(Drop)]
-pub struct Grants {
-    pub one: Granted,
-    pub other: Granted,
-}
-
-pub fn judge(task: &[u8], slots: &[u8], one: &mut [u8], other: &mut [u8]) -> Numbers
+pub fn judge(
+    task: &[u8],
+    slots: &[u8],
+    one: &mut [u8],
+    other: &mut [u8],
+) -> Pair<Result<(), Refusal>>
     requires { one.old ≡ other.old }
     ensures { (result.one ≡ result.other) × (one.new ≡ other.new) }
 {
-    Numbers {
+    Pair {
         one: judge::judge(task, slots, one),
         other: judge::judge(task, slots, other),
     }
 }
 
-pub fn rounds_judge(task: &[u8], slots: &[u8], one: &mut [u8], other: &mut [u8]) -> Numbers
+pub fn rounds_judge(
+    task: &[u8],
+    slots: &[u8],
+    one: &mut [u8],
+    other: &mut [u8],
+) -> Pair<Result<(), Refusal>>
     requires { one.old ≡ other.old }
     ensures { (result.one ≡ result.other) × (one.new ≡ other.new) }
 {
-    Numbers {
+    Pair {
         one: rounds::rounds_judge(task, slots, one),
         other: rounds::rounds_judge(task, slots, other),
     }
 }
 
-pub fn site(tasks: &[u8], slots: &[u8], one: &mut [u8], other: &mut [u8]) -> Numbers
+pub fn site(
+    tasks: &[u8],
+    slots: &[u8],
+    one: &mut [u8],
+    other: &mut [u8],
+) -> Pair<Result<(), Refusal>>
     requires { one.old ≡ other.old }
     ensures { (result.one ≡ result.other) × (one.new ≡ other.new) }
 {
-    Numbers {
+    Pair {
         one: site::site(tasks, slots, one),
         other: site::site(tasks, slots, other),
     }
 }
 
-pub fn which_slot(task: &[u8], slots: &[u8]) -> Troubles
+pub fn which_slot(task: &[u8], slots: &[u8]) -> Pair<Result<(), Trouble>>
     ensures { result.one ≡ result.other }
 {
-    Troubles {
+    Pair {
         one: which::which_slot(task, slots),
         other: which::which_slot(task, slots),
     }
 }
 
-pub fn supply(task: &[u8], slots: &[u8], offset: u64) -> Supplies
-    ensures { (result.one.number ≡ result.other.number) × (result.one.supply ≡ result.other.supply) }
+pub fn supply(task: &[u8], slots: &[u8], offset: u64) -> Pair<Result<u32, Refusal>>
+    ensures { result.one ≡ result.other }
 {
-    Supplies {
+    Pair {
         one: judge::supply(task, slots, offset),
         other: judge::supply(task, slots, offset),
     }
 }
 
-pub fn margin(task: &[u8], slots: &[u8], offset: u64) -> Margins
-    ensures { (result.one.number ≡ result.other.number) × (result.one.margin ≡ result.other.margin) }
+pub fn margin(task: &[u8], slots: &[u8], offset: u64) -> Pair<Result<i32, Refusal>>
+    ensures { result.one ≡ result.other }
 {
-    Margins {
+    Pair {
         one: judge::margin(task, slots, offset),
         other: judge::margin(task, slots, offset),
     }
 }
 
-pub fn count(task: &[u8], slots: &[u8], offset: u64) -> Counts
-    ensures { (result.one.number ≡ result.other.number) × (result.one.count ≡ result.other.count) }
+pub fn count(task: &[u8], slots: &[u8], offset: u64) -> Pair<Result<u32, Refusal>>
+    ensures { result.one ≡ result.other }
 {
-    Counts {
+    Pair {
         one: judge::count(task, slots, offset),
         other: judge::count(task, slots, offset),
     }
 }
 
-pub fn rounds_count(task: &[u8], slots: &[u8], offset: u64) -> Counts
-    ensures { (result.one.number ≡ result.other.number) × (result.one.count ≡ result.other.count) }
+pub fn rounds_count(task: &[u8], slots: &[u8], offset: u64) -> Pair<Result<u32, Refusal>>
+    ensures { result.one ≡ result.other }
 {
-    Counts {
+    Pair {
         one: rounds::rounds_count(task, slots, offset),
         other: rounds::rounds_count(task, slots, offset),
     }
 }
 
-pub fn quick(task: &[u8], slots: &[u8]) -> Verdicts
-    ensures { (result.one.number ≡ result.other.number) × (result.one.firm ≡ result.other.firm) }
+pub fn quick(task: &[u8], slots: &[u8]) -> Pair<Result<bool, Refusal>>
+    ensures { result.one ≡ result.other }
 {
-    Verdicts {
+    Pair {
         one: quick::quick(task, slots),
         other: quick::quick(task, slots),
     }
@@ -156,11 +116,11 @@ pub fn grant(
     h: u64,
     m: u64,
     k: u64,
-) -> Grants
+) -> Pair<Result<u32, Refusal>>
     requires { one.old ≡ other.old }
-    ensures { (result.one.number ≡ result.other.number) × (result.one.slots ≡ result.other.slots) × (one.new ≡ other.new) }
+    ensures { (result.one ≡ result.other) × (one.new ≡ other.new) }
 {
-    Grants {
+    Pair {
         one: grants::grant(one, v, loss, e, d, h, m, k),
         other: grants::grant(other, v, loss, e, d, h, m, k),
     }
@@ -181,11 +141,11 @@ pub fn lookup<'a>(site: &'a [u8], factory: &'a [u8], id: u32) -> &'a [u8]
     other
 }
 
-pub fn fiddlequill_judge(task: &[u8], slots: &[u8], one: &mut [u8], other: &mut [u8]) -> Numbers
+pub fn fiddlequill_judge(task: &[u8], slots: &[u8], one: &mut [u8], other: &mut [u8]) -> Pair<u32>
     requires { one.old ≡ other.old }
     ensures { (result.one ≡ result.other) × (one.new ≡ other.new) }
 {
-    Numbers {
+    Pair {
         one: fiddlequill::fiddlequill_judge(task, slots, one),
         other: fiddlequill::fiddlequill_judge(task, slots, other),
     }
@@ -196,75 +156,75 @@ pub fn fiddlequill_rounds_judge(
     slots: &[u8],
     one: &mut [u8],
     other: &mut [u8],
-) -> Numbers
+) -> Pair<u32>
     requires { one.old ≡ other.old }
     ensures { (result.one ≡ result.other) × (one.new ≡ other.new) }
 {
-    Numbers {
+    Pair {
         one: fiddlequill::fiddlequill_rounds_judge(task, slots, one),
         other: fiddlequill::fiddlequill_rounds_judge(task, slots, other),
     }
 }
 
-pub fn fiddlequill_site(tasks: &[u8], slots: &[u8], one: &mut [u8], other: &mut [u8]) -> Numbers
+pub fn fiddlequill_site(tasks: &[u8], slots: &[u8], one: &mut [u8], other: &mut [u8]) -> Pair<u32>
     requires { one.old ≡ other.old }
     ensures { (result.one ≡ result.other) × (one.new ≡ other.new) }
 {
-    Numbers {
+    Pair {
         one: fiddlequill::fiddlequill_site(tasks, slots, one),
         other: fiddlequill::fiddlequill_site(tasks, slots, other),
     }
 }
 
-pub fn fiddlequill_which_slot(task: &[u8], slots: &[u8]) -> Packed
+pub fn fiddlequill_which_slot(task: &[u8], slots: &[u8]) -> Pair<u64>
     ensures { result.one ≡ result.other }
 {
-    Packed {
+    Pair {
         one: fiddlequill::fiddlequill_which_slot(task, slots),
         other: fiddlequill::fiddlequill_which_slot(task, slots),
     }
 }
 
-pub fn fiddlequill_supply(task: &[u8], slots: &[u8], offset: u64) -> Packed
+pub fn fiddlequill_supply(task: &[u8], slots: &[u8], offset: u64) -> Pair<u64>
     ensures { result.one ≡ result.other }
 {
-    Packed {
+    Pair {
         one: fiddlequill::fiddlequill_supply(task, slots, offset),
         other: fiddlequill::fiddlequill_supply(task, slots, offset),
     }
 }
 
-pub fn fiddlequill_margin(task: &[u8], slots: &[u8], offset: u64) -> Packed
+pub fn fiddlequill_margin(task: &[u8], slots: &[u8], offset: u64) -> Pair<u64>
     ensures { result.one ≡ result.other }
 {
-    Packed {
+    Pair {
         one: fiddlequill::fiddlequill_margin(task, slots, offset),
         other: fiddlequill::fiddlequill_margin(task, slots, offset),
     }
 }
 
-pub fn fiddlequill_count(task: &[u8], slots: &[u8], offset: u64) -> Packed
+pub fn fiddlequill_count(task: &[u8], slots: &[u8], offset: u64) -> Pair<u64>
     ensures { result.one ≡ result.other }
 {
-    Packed {
+    Pair {
         one: fiddlequill::fiddlequill_count(task, slots, offset),
         other: fiddlequill::fiddlequill_count(task, slots, offset),
     }
 }
 
-pub fn fiddlequill_rounds_count(task: &[u8], slots: &[u8], offset: u64) -> Packed
+pub fn fiddlequill_rounds_count(task: &[u8], slots: &[u8], offset: u64) -> Pair<u64>
     ensures { result.one ≡ result.other }
 {
-    Packed {
+    Pair {
         one: fiddlequill::fiddlequill_rounds_count(task, slots, offset),
         other: fiddlequill::fiddlequill_rounds_count(task, slots, offset),
     }
 }
 
-pub fn fiddlequill_quick(task: &[u8], slots: &[u8]) -> Packed
+pub fn fiddlequill_quick(task: &[u8], slots: &[u8]) -> Pair<u64>
     ensures { result.one ≡ result.other }
 {
-    Packed {
+    Pair {
         one: fiddlequill::fiddlequill_quick(task, slots),
         other: fiddlequill::fiddlequill_quick(task, slots),
     }
@@ -280,31 +240,31 @@ pub fn fiddlequill_grant(
     h: u64,
     m: u64,
     k: u64,
-) -> Packed
+) -> Pair<u64>
     requires { one.old ≡ other.old }
     ensures { (result.one ≡ result.other) × (one.new ≡ other.new) }
 {
-    Packed {
+    Pair {
         one: fiddlequill::fiddlequill_grant(one, v, loss, e, d, h, m, k),
         other: fiddlequill::fiddlequill_grant(other, v, loss, e, d, h, m, k),
     }
 }
 
-pub fn line(answer: &[u8], one: &mut [u8], other: &mut [u8], at: usize) -> Places
+pub fn line(answer: &[u8], one: &mut [u8], other: &mut [u8], at: usize) -> Pair<usize>
     requires { one.old ≡ other.old }
     ensures { (result.one ≡ result.other) × (one.new ≡ other.new) }
 {
-    Places {
+    Pair {
         one: lines::line(answer, one, at),
         other: lines::line(answer, other, at),
     }
 }
 
-pub fn refused(one: &mut [u8], other: &mut [u8], at: usize) -> Places
+pub fn refused(one: &mut [u8], other: &mut [u8], at: usize) -> Pair<usize>
     requires { one.old ≡ other.old }
     ensures { (result.one ≡ result.other) × (one.new ≡ other.new) }
 {
-    Places {
+    Pair {
         one: lines::refused(one, at),
         other: lines::refused(other, at),
     }
@@ -315,11 +275,11 @@ pub fn sheet(
     slots: &[u8],
     one: &mut [u8; MOST_TEXT],
     other: &mut [u8; MOST_TEXT],
-) -> Places
+) -> Pair<usize>
     requires { one.old ≡ other.old }
     ensures { (result.one ≡ result.other) × (one.new ≡ other.new) }
 {
-    Places {
+    Pair {
         one: sheets::sheet(tasks, slots, one),
         other: sheets::sheet(tasks, slots, other),
     }

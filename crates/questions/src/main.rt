@@ -1,8 +1,10 @@
 #![tactic(auto)]
 
 // Answers the questions of questions.bin, a line each: the supply, the margin, the count and the lookup of two byte strings and a number.
-ghost use Rattle.std.specs.Prelude.{◌+◌, ◌≤◌, length};
+ghost use Rattle.std.specs.Prelude.{◌≡◌, ◌+◌, ◌≤◌, length, IfSome};
 
+use limits::Refusal;
+use std::fmt::Display;
 use std::fs::File;
 use std::io;
 use std::io::Read;
@@ -13,119 +15,85 @@ const HEAD: usize = 16;
 // The longest string.
 const MOST: usize = 65536;
 
-// A number and a space.
-fn number(rt: &impl Print, n: u64) -> io::Result<()> {
-    rt.print(n)?;
-    rt.print(" ")
+// Two strings, and the halves of a number.
+#[derive(Drop)]
+struct Question<'a> {
+    one: &'a [u8],
+    other: &'a [u8],
+    low: u32,
+    high: u32,
 }
 
-// The same of a signed number, from its two's complement.
-fn signed(rt: &impl Print, z: i32) -> io::Result<()> {
-    let bits = octets::twos(z);
-    if bits < 2147483648 {
-        number(rt, bits as u64)
-    } else {
-        rt.print("-")?;
-        number(rt, 4294967296 - bits as u64)
+// A refusal's number, 0 for none, then the value, 0 beside a refusal.
+fn point(rt: &impl Print, answer: Result<impl Display + Drop, Refusal>) -> io::Result<()> {
+    match answer {
+        Ok(value) => print!(rt; "0 {value} "),
+        Err(bad) => print!(rt; "{} 0 ", bad.number()),
     }
-}
-
-// What the questions at a half tick answer: each its refusal, then its number.
-fn points(rt: &impl Print, task: &[u8], slots: &[u8], offset: u64) -> io::Result<()> {
-    let s = judge::supply(task, slots, offset);
-    number(rt, s.number as u64)?;
-    number(rt, s.supply as u64)?;
-    let g = judge::margin(task, slots, offset);
-    number(rt, g.number as u64)?;
-    signed(rt, g.margin)?;
-    let c = judge::count(task, slots, offset);
-    number(rt, c.number as u64)?;
-    number(rt, c.count as u64)
 }
 
 fn word(s: &[u8], at: usize) -> u32
     requires { at + 4 ≤ length s.now }
 {
-    (octets::four(s, at) % 4294967296) as u32
+    u32::from_le_bytes([s[at], s[at + 1], s[at + 2], s[at + 3]])
 }
 
-// All bytes of a record, as numbers of four bytes.
-fn words(rt: &impl Print, s: &[u8]) -> io::Result<()> {
-    let n = s.len() / 4;
-    let mut i = 0;
-    while i < n {
-        number(rt, word(s, 4 * i) as u64)?;
-        i += 1;
+// The length of what the lookup finds, then all its bytes, as numbers of four bytes.
+fn found(rt: &impl Print, part: &[u8]) -> io::Result<()> {
+    print!(rt; "{} ", part.len())?;
+    for four in part.chunks_exact(4) {
+        print!(rt; "{} ", word(four, 0))?;
     }
     Ok(())
 }
 
-// The length of what the lookup finds, then what it is.
-fn found(rt: &impl Print, site: &[u8], factory: &[u8], id: u32) -> io::Result<()> {
-    let r = lookup::lookup(site, factory, id);
-    number(rt, r.len() as u64)?;
-    words(rt, r)
+impl Question<'_> {
+    // One line. The number is the offset, and its low half the id.
+    fn answer(&self, rt: &impl Print) -> io::Result<()> {
+        let offset = (u64::from(self.high) << 32) + u64::from(self.low);
+        point(rt, judge::supply(self.one, self.other, offset))?;
+        point(rt, judge::margin(self.one, self.other, offset))?;
+        point(rt, judge::count(self.one, self.other, offset))?;
+        found(rt, lookup::lookup(self.one, self.other, self.low))?;
+        rt.print("\n")
+    }
 }
 
-// One line. The number is the offset, and its low half the id.
-fn answer(rt: &impl Print, a: &[u8], b: &[u8], low: u32, high: u32) -> io::Result<()> {
-    points(rt, a, b, high as u64 * 4294967296 + low as u64)?;
-    found(rt, a, b, low)?;
-    rt.print("\n")
-}
-
-// Reads n bytes over the start of the buffer and answers how many came: none where the file ends before, or where there is no room.
-fn part(file: &mut File, n: usize, buf: &mut [u8]) -> usize
-    ensures { result ≤ length buf.new }
+// Reads n bytes over the start of the buffer: none where the file ends before, or where there is no room.
+fn part<'a>(file: &mut File, n: usize, buf: &'a mut [u8]) -> Option<&'a [u8]>
+    ensures { IfSome result (λ s. length s.now ≡ n) }
 {
-    if buf.len() < n {
-        return 0;
-    }
-    match file.read_exact(&mut buf[..n]) {
-        Ok(()) => n,
-        Err(_) => 0,
-    }
+    let part = buf.get_mut(..n)?;
+    file.read_exact(part).ok()?;
+    Some(part)
 }
 
-// Reads the next question and answers it. The result is whether it was there.
-fn ask(rt: &impl Print, file: &mut File, a: &mut [u8], b: &mut [u8]) -> io::Result<bool> {
+// The next question, if it is there.
+fn next<'a>(file: &mut File, a: &'a mut [u8], b: &'a mut [u8]) -> Option<Question<'a>> {
     let mut head = [0u8; HEAD];
-    if part(file, HEAD, &mut head) != HEAD {
-        return Ok(false);
-    }
-    let n = part(file, octets::four(&head, 0), a);
-    let m = part(file, octets::four(&head, 4), b);
-    if n != octets::four(&head, 0) {
-        return Ok(false);
-    }
-    if m != octets::four(&head, 4) {
-        return Ok(false);
-    }
-    answer(rt, &a[..n], &b[..m], word(&head, 8), word(&head, 12))?;
-    Ok(true)
+    let head = part(file, HEAD, &mut head)?;
+    Some(Question {
+        one: part(file, octets::four(head, 0), a)?,
+        other: part(file, octets::four(head, 4), b)?,
+        low: word(head, 8),
+        high: word(head, 12),
+    })
 }
 
-// No more than `left` questions: nothing says that a file ends.
-fn all(rt: &impl Print, file: &mut File, left: u32, a: &mut [u8], b: &mut [u8]) -> io::Result<()> {
-    let mut i = 0;
-    while i < left {
-        if !ask(rt, file, a, b)? {
-            return Ok(());
-        }
-        i += 1;
-    }
-    Ok(())
-}
-
-// The file begins with how many questions it has. A missing one has none.
+// The file begins with how many questions it has: nothing says that a file ends. A missing one has none.
 fn main(rt: HostRuntime) -> io::Result<()> {
-    let mut file = match File::open(&rt, "questions.bin") {
-        Ok(file) => file,
-        Err(_) => return Ok(()),
+    let Ok(mut file) = File::open(&rt, "questions.bin") else {
+        return Ok(());
     };
     let mut head = [0u8; 4];
     part(&mut file, 4, &mut head);
     let mut a = [0u8; MOST];
     let mut b = [0u8; MOST];
-    all(&rt, &mut file, word(&head, 0), &mut a, &mut b)
+    for _ in 0..word(&head, 0) {
+        let Some(question) = next(&mut file, &mut a, &mut b) else {
+            break;
+        };
+        question.answer(&rt)?;
+    }
+    Ok(())
 }

@@ -6,13 +6,11 @@ use native.Mathlib.Nat.{zero-lt-suc}
 use borrow.Author.Tests.{ltb-false}
 use Rattle.limits.proofs.Refusals.{both-none, when-none}
 use Rattle.limits.proofs.Made.{wheel-within, task-within}
-use Rattle.records.specs.Refusals.{range, table_refusal, slots_refusal, board_refusal, body_refusal, job_of, checked}
+use Rattle.records.specs.Refusals.{range, table_refusal, slots_refusal, board_refusal, body_refusal, job_of}
 use Rattle.records.specs.Jobs.{Good}
 use Rattle.records.specs.declared.TaskRecord.{TaskRecord}
 use Rattle.records.specs.declared.Job.{Job}
-use Rattle.records.specs.declared.Checked.TheVariants.{Accepted}
 use Rattle.records.proofs.Numbers.{body-all}
-use Rattle.records.proofs.Checks.{checked-accepted}
 
 pub good-job : (r : TaskRecord) (l : List ℕ) → body_refusal r l ≡ 0 → Good l (job_of r)
 unfolding body_refusal board_refusal range slots_refusal table_refusal
@@ -32,8 +30,9 @@ good-job r l e =
       within = task-within _ _ _ _ _ parts.1;
     }
 
-pub good-accepted : (r : TaskRecord) (l : List ℕ) (j : Job) → checked r l ≡ Accepted j → Good l j
-good-accepted r l j e = let p = checked-accepted r l j e in rw p.1 (good-job r l p.0)
+-- The same of the job that a check answers.
+pub good-checked : (r : TaskRecord) (l : List ℕ) (j : Job) → (body_refusal r l ≡ 0) × (j ≡ job_of r) → Good l j
+good-checked r l j (none, same) = rw same (good-job r l none)
 
 -- The body's refusals are 3 or more.
 pub body-high : (r : TaskRecord) (l : List ℕ) (n : ℕ) → n ≡ body_refusal r l → (n ≡ 0 → ⊥) → 2 < n

@@ -1,5 +1,4 @@
 pub mod Parts
 pub mod Numbers
 pub mod Walk
-pub mod Checks
 pub mod Accepts

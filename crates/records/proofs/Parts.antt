@@ -1,16 +1,15 @@
 -- A task record as a part of a file, and refusals 1 and 3, tested one by one. Assumes nothing.
-use mathlib.Core.Path.{◌≡◌, refl, sym, ap}
+use mathlib.Core.Path.{◌≡◌, refl, ap}
 use mathlib.Core.Bool.{Bool, true, false, not, ◌||◌}
 use mathlib.Core.List.{List}
-use Prim.Native.Nat.{ℕ, ◌+◌, ◌-◌, ◌*◌, ◌%◌, ◌≤◌, ◌<◌}
+use Prim.Native.Nat.{ℕ, ◌+◌, ◌-◌, ◌*◌, ◌%◌}
 use native.Mathlib.Nat.{zero-lt-suc}
 use native.Mathlib.Omega.{arith}
-use lib.Dec.{ltb, eqb}
+use lib.Dec.{eqb}
 use lib.ListN.{length, take, drop}
-use borrow.Author.Tests.{lt-ltb, eqb-true, not-false}
+use borrow.Author.Tests.{eqb-true, not-false}
 use Rattle.limits.specs.Refusal.{◌when◌}
-use Rattle.limits.proofs.Refusals.{when_true, when_false, when-none, or-false, first-wrong, next-wrong, both_right}
-use Rattle.rules.proofs.Step.{ltb-same}
+use Rattle.limits.proofs.Refusals.{when_true, when_false, when-none, or-false, both_right}
 use Rattle.records.specs.Records.{task_bytes, slot_bytes, part}
 use Rattle.records.specs.Refusals.{sizes}
 
@@ -21,26 +20,9 @@ cut-part l i =
     let e : task_bytes * i + task_bytes - task_bytes * i ≡ task_bytes = omega arith in
     ap (λ n. take n (drop (task_bytes * i) l)) e
 
-pub sizes-task : (t s : List ℕ) → (length t ≡ task_bytes → ⊥) → 1 ≡ sizes t s
-unfolding sizes
-sizes-task t s bad = first-wrong 1 (length t) task_bytes (length s % slot_bytes) 0 bad
-
-pub sizes-slots : (t s : List ℕ) → length t ≡ task_bytes → (length s % slot_bytes ≡ 0 → ⊥) → 1 ≡ sizes t s
-unfolding sizes
-sizes-slots t s e bad = next-wrong 1 (length t) task_bytes (length s % slot_bytes) 0 e bad
-
 pub sizes-good : (t s : List ℕ) → length t ≡ task_bytes → length s % slot_bytes ≡ 0 → 0 ≡ sizes t s
 unfolding sizes
 sizes-good t s e f = both_right 1 (length t) task_bytes (length s % slot_bytes) 0 e f
-
-pub range-over : (first count total : ℕ) → total < count → 3 ≡ (3 when ltb total (first + count))
-unfolding ◌when◌
-range-over first count total l = sym (ap (λ b. 3 when b) (lt-ltb total (first + count) (omega arith)))
-
-pub range-rest :
-    (first count total : ℕ) → count ≤ total → (3 when ltb (total - count) first) ≡ (3 when ltb total (first + count))
-range-rest first count total l =
-    ap (λ b. 3 when b) (ltb-same (total - count) first total (first + count) (λ x. omega arith) (λ x. omega arith))
 
 -- Refusal 1 is the only one that the sizes give.
 pub sizes-one : (t s : List ℕ) → (sizes t s ≡ 0 → ⊥) → sizes t s ≡ 1

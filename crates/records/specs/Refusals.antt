@@ -13,23 +13,17 @@
 --     judge_refusal t l reply     as judging checks them: 1, 2, the body's
 --     point_refusal t l x         as every question at a half tick x checks them: 1, the body's, 11
 --     which_refusal t l           as the question which slot is bad checks them: 1, the board's
---     boarded r l                 the wheel of a task record whose table is good, or its refusal
 --     job_of r                    what an accepted task record is turned into
---     checked r l                 that, or its refusal
 --
 -- The part's first slot has nothing before it: the record in front of `first` isn't the previous slot. Every record of the part is tested,
 -- and the slot before it is the record before it, whoever owns them.
 use Rattle.std.specs.Prelude.{not, ◌||◌, List, ℕ, zero, suc, ◌+◌, ◌-◌, ◌*◌, ◌/◌, ◌%◌, leb, ltb, eqb, length}
-use Rattle.limits.specs.Refusal.{◌when◌, ◌otherwise◌, if_none}
+use Rattle.limits.specs.Refusal.{◌when◌, ◌otherwise◌}
 use Rattle.limits.specs.Limits.{most_slots, id_refusal, wheel_refusal, task_refusal, task_of}
-use Rattle.limits.specs.declared.WheelMade.{WheelMade}
-use Rattle.limits.specs.declared.WheelMade.TheVariants as wheel_made
 use Rattle.records.specs.Records.{task_bytes, slot_bytes, reply_bytes, task_record, slot_at}
 use Rattle.records.specs.declared.TaskRecord.{TaskRecord}
 use Rattle.records.specs.declared.Slot.{Slot}
 use Rattle.records.specs.declared.Job.{Job}
-use Rattle.records.specs.declared.Checked.{Checked}
-use Rattle.records.specs.declared.Checked.TheVariants.{Accepted, Refused}
 
 unfoldable pub sizes : List ℕ → List ℕ → ℕ
 sizes task slots = 1 when (not (eqb (length task) task_bytes) || not (eqb (length slots % slot_bytes) 0))
@@ -87,10 +81,6 @@ point_refusal task slots offset =
 unfoldable pub which_refusal : List ℕ → List ℕ → ℕ
 which_refusal task slots = sizes task slots otherwise board_refusal (task_record task) slots
 
-unfoldable pub boarded : TaskRecord → List ℕ → WheelMade
-boarded r slots =
-    if_none (board_refusal r slots) (wheel_made.Made (record { w = r.w })) (wheel_made.Refused (board_refusal r slots))
-
 abbrev pub job_of : TaskRecord → Job
 job_of r =
     record {
@@ -100,6 +90,3 @@ job_of r =
       count = r.count;
       task = task_of r.e r.d r.h r.m r.k;
     }
-
-unfoldable pub checked : TaskRecord → List ℕ → Checked
-checked r slots = if_none (body_refusal r slots) (Accepted (job_of r)) (Refused (body_refusal r slots))

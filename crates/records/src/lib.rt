@@ -5,10 +5,11 @@ pub mod answer;
 pub mod board;
 
 ghost use Rattle.std.specs.Prelude.{◌≡◌, length};
+ghost use Rattle.limits.specs.Refusal.{Checks};
 ghost use Rattle.records.specs.Records.{task_bytes, task_record};
-ghost use Rattle.records.specs.Refusals.{sizes, checked};
+ghost use Rattle.records.specs.Refusals.{sizes, body_refusal, job_of};
 
-use limits::{Task, TaskMade, Wheel, WheelMade};
+use limits::{Refusal, Task, Wheel};
 
 // The numbers of a task record, as they stand in it.
 #[derive(Clone, Copy)]
@@ -52,23 +53,12 @@ pub struct Job {
     pub task: Task,
 }
 
-#[derive(Drop)]
-pub enum Checked {
-    Accepted(Job),
-    Refused(u32),
-}
-
-// Refusal 1, or 0.
-pub fn sizes(task: &[u8], slots: &[u8]) -> u32
-    ensures { result ≡ sizes task.now slots.now }
+// Refusal 1.
+#[tactic(auto, unfolding(crate::specs::Refusals::sizes))]
+pub fn sizes(task: &[u8], slots: &[u8]) -> Result<(), Refusal>
+    ensures { Checks (sizes task.now slots.now) tt result }
 {
-    if task.len() != TaskRecord::BYTES {
-        return 1;
-    }
-    if slots.len() % Slot::BYTES != 0 {
-        return 1;
-    }
-    0
+    Refusal::Sizes.when(task.len() != TaskRecord::BYTES || slots.len() % Slot::BYTES != 0)
 }
 
 // The numbers of a whole task record.
@@ -90,20 +80,17 @@ pub fn read(task: &[u8]) -> TaskRecord
 }
 
 // The accepted job, or the first refusal that applies: those of the wheel and its table come before those of the task's own numbers.
-pub fn check(r: TaskRecord, slots: &[u8]) -> Checked
-    ensures { result ≡ checked r slots.now }
+#[tactic(auto, using(limits::proofs::Checks::row), unfolding(crate::specs::Refusals::body_refusal))]
+pub fn check(r: TaskRecord, slots: &[u8]) -> Result<Job, Refusal>
+    ensures { Checks (body_refusal r slots.now) (job_of r) result }
 {
-    match board::wheel(r, slots) {
-        WheelMade::Refused(bad) => Checked::Refused(bad),
-        WheelMade::Made(wheel) => match Task::new(r.e, r.d, r.h, r.m, r.k) {
-            TaskMade::Refused(bad) => Checked::Refused(bad),
-            TaskMade::Made(task) => Checked::Accepted(Job {
-                wheel,
-                owner: r.id,
-                first: r.first,
-                count: r.count,
-                task,
-            }),
-        },
-    }
+    let wheel = board::wheel(r, slots)?;
+    let task = Task::new(r.e, r.d, r.h, r.m, r.k)?;
+    Ok(Job {
+        wheel,
+        owner: r.id,
+        first: r.first,
+        count: r.count,
+        task,
+    })
 }

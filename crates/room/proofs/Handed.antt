@@ -1,6 +1,6 @@
 -- Runs that were laid out in a buffer have no more edges than it has places, and what the room answers holds of each set of ticks that they
 -- lay out. Assumes nothing.
-use mathlib.Core.Path.{◌≡◌, sym}
+use mathlib.Core.Path.{◌≡◌}
 use mathlib.Core.Logic.{◌↔◌}
 use mathlib.Core.Bool.{Bool, true}
 use mathlib.Core.List.{List}
@@ -12,27 +12,18 @@ use Rattle.rules.specs.Sums.{Subset}
 use Rattle.rules.specs.Supply.{count}
 use Rattle.rules.specs.Worst.{Worst, Firm}
 use Rattle.rules.specs.Least.{Least}
-use Rattle.limits.specs.Limits.{asked, Within}
+use Rattle.limits.specs.Limits.{asked}
 use Rattle.limits.specs.declared.Task.{Task}
 use Rattle.runs.specs.Runs.{Laid, Runs, LaidIn}
 use Rattle.runs.proofs.Edges.{runs_of}
 use Rattle.room.specs.Room.{Foremost, Nearest, Found, Decides, Tallied}
 use Rattle.room.specs.declared.Peak.{Peak}
 
--- The part that is handed on has all the edges.
-pub cut : {l l' : List ℕ} {n w : ℕ} {u : Subset} → LaidIn l l' n w u → n ≡ length (take n l')
-cut {l' = l'} {n} laid = sym (length-take-le n l' laid.room)
-
 pub handed :
     {l l' : List ℕ} {n w most : ℕ} {u : Subset} → LaidIn l l' n w u → length l ≤ most
     → Runs (take n l') w × (length (take n l') ≤ most)
 handed {l} {l'} {n} laid long =
     (runs_of laid.laid, omega (arith, length-take-le n l' laid.room, laid.room, laid.long))
-
-pub handed-task :
-    {l l' : List ℕ} {n w most : ℕ} {u : Subset} {t : Task} → LaidIn l l' n w u → Within t → length l ≤ most
-    → Runs (take n l') w × Within t × (length (take n l') ≤ most)
-handed-task laid within long = let runs = handed laid long in (runs.0, within, runs.1)
 
 pub found :
     (l : List ℕ) (w : ℕ) (t : Task) (r : Peak) → Found l w t r → (u : Subset) → Laid l w u

@@ -41,36 +41,31 @@ topped-none l w h k none z laid =
 
 pub topped-drawn :
     (l : List ℕ) (w : ℕ) (m : List ℕ) (h k : ℕ) → length m ≡ w → ((z : Subset) → Laid l w z → Drawn m z) → (c a : ℕ)
-    → Top m h k c a → Topped l (length m) h k c a
+    → Top m h k c a → Topped l w h k c a
 unfolding Topped
 topped-drawn l w m h k long drawn c a top z laid =
-    largest-same (λ i _. met-drawn m z (drawn z (rw long at laid)) laid.wheel.some h k i) top
+    let some : 0 < length m = rw long laid.wheel.some in
+    rw long at (largest-same (λ i _. met-drawn m z (drawn z laid) some h k i) top)
 
 pub highest :
-    {g : ℤ} (l : List ℕ) (w : ℕ) (t : Task) (n : ℕ) (late late' : List ℕ) (x c a : ℕ) → LateIn l w t 1 late n g late' → x ≡ w
-    → Topped (take n late') x t.h t.k c a → Highest l w t c a
+    {g : ℤ} (l : List ℕ) (w : ℕ) (t : Task) (n : ℕ) (late late' : List ℕ) (c a : ℕ) → LateIn l w t 1 late n g late'
+    → Topped (take n late') w t.h t.k c a → Highest l w t c a
 unfolding Topped Highest count
-highest l w t n late late' x c a lates long top u laid =
+highest l w t n late late' c a lates top u laid =
     largest-same (λ i _. from-side w u laid.wheel (asked t) 1 t.k i)
-    (rw long at (top (λ a. dropped 2 u (asked t) (2 * a + 1)) (rw long (lates.laid u laid))))
+    (top (λ a. dropped 2 u (asked t) (2 * a + 1)) (lates.laid u laid))
 
 pub nearest :
     {l : List ℕ} {w : ℕ} {t : Task} {side n : ℕ} {g : ℤ} {late late' : List ℕ} → LateIn l w t side late n g late' → Nearest l w t g
 unfolding Nearest
 nearest lates = lates.least
 
--- The largest count along the late runs is that half a tick after a tick, and what the work was lent stays lent.
-pub ridged :
-    {g : ℤ} (l : List ℕ) (w : ℕ) (t : Task) (n : ℕ) (late late' map map' : List ℕ) (c a : ℕ) → Lent l w t late map
-    → LateIn l w t 1 late n g late' → length map' ≡ length map → Topped (take n late') (length map') t.h t.k c a
-    → Highest l w t c a × (Nearest l w t g × Lent l w t late' map')
-ridged l w t n late late' map map' c a lent lates kept top = (
-  highest l w t n late late' (length map') c a lates (kept ∙ lent.long) top,
-  (
-    nearest lates,
-    record { runs = lent.runs; within = lent.within; room = omega (arith, lent.room, lates.long); long = kept ∙ lent.long },
-  ),
-)
+-- What the work was lent stays lent.
+pub still-lent :
+    {g : ℤ} {l : List ℕ} {w : ℕ} {t : Task} {side n : ℕ} {late late' map map' : List ℕ} → Lent l w t late map
+    → LateIn l w t side late n g late' → length map' ≡ length map → Lent l w t late' map'
+still-lent lent lates kept =
+    record { runs = lent.runs; within = lent.within; room = omega (arith, lent.room, lates.long); long = kept ∙ lent.long }
 
 pub highest-inside :
     (l : List ℕ) (w : ℕ) (t : Task) (c a : ℕ) → Runs l w → Highest l w t c a → a < most_ticks

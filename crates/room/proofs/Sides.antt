@@ -1,28 +1,28 @@
 -- From late runs to the rules' counts: strips that meet the late ticks of a side are the strips of the rules that are dropped from that side of a tick.
 --
--- In order: late ticks; a map of them; what the work is lent; a count. Assumes nothing.
+-- In order: late ticks; a map of them; late runs; a count. Assumes nothing.
 use mathlib.Core.Path.{◌≡◌, sym, ap, ◌∙◌}
 use mathlib.Core.Logic.{⊎_elim}
 use mathlib.Core.List.{List}
-use Prim.Native.Nat.{ℕ, ◌+◌, ◌*◌, ◌/◌, ◌%◌, ◌≤◌, ◌<◌, min}
+use Prim.Native.Nat.{ℕ, ◌+◌, ◌*◌, ◌/◌, ◌%◌, ◌≤◌, ◌<◌}
 use native.Mathlib.Nat.{mul_left_comm}
 use native.Mathlib.Omega.{arith}
 use lib.IntN.{ℤ}
 use lib.ListN.{length, get_or, take, get_or-eq_default}
-use lib.Seq.{length-take-le}
 use Rattle.rules.specs.Sums.{Subset, bit, number}
 use Rattle.rules.specs.Supply as rules
 use Rattle.rules.specs.Supply.{dropped, drops, count}
 use Rattle.rules.specs.Worst.{Wheel}
 use Rattle.rules.proofs.Sums.{le-or-lt, bit_le, sum-cong}
 use Rattle.rules.proofs.Zones.{tick-mod}
-use Rattle.limits.specs.Limits.{asked, Within, most_period, most_strips}
+use Rattle.limits.specs.Limits.{asked, most_period, most_strips}
 use Rattle.limits.specs.declared.Task.{Task}
-use Rattle.runs.specs.Runs.{Laid, Runs}
+use Rattle.runs.specs.Runs.{Laid, Runs, Ordered}
+use Rattle.runs.proofs.Ordered.{runs_in, runs_ordered}
 use Rattle.maps.specs.Maps.{Drawn, Mapped, Sized, strips, met, fallen}
 use Rattle.maps.proofs.Strips.{met-drawn}
-use Rattle.late.specs.Late.{late_room, LateIn}
-use Rattle.room.specs.Room.{Lent, Tallied}
+use Rattle.late.specs.Late.{LateIn}
+use Rattle.room.specs.Room.{Tallied}
 
 -- ---- late ticks
 
@@ -61,39 +61,28 @@ module _ (l : List ℕ) (w : ℕ) (m : List ℕ) (runs : Runs l w) (long : lengt
   unfolding Runs Mapped
   drawn-mapped = (runs.0, rw long runs.1, drawn runs.0 runs.1)
 
--- ---- what the work is lent
+-- ---- late runs
 
--- The part of a map that is as long as the wheel.
-pub lent-part :
-    (l : List ℕ) (w : ℕ) (t : Task) (late map : List ℕ) (A : Type 0)
-    → Runs l w × Within t × (min (late_room (length l)) w ≤ length late) × (w ≤ length map) × A → Lent l w t late (take w map)
-lent-part l w t late map A (runs, within, room, long, _) =
-    record { runs = runs; within = within; room = room; long = length-take-le w map long }
-
--- The late runs are runs of some set, and have no more edges than the wheel has ticks.
+-- The late ticks are runs of some set, and have no more edges than the wheel has ticks.
 pub late-runs :
     {l : List ℕ} {w : ℕ} {t : Task} {side n : ℕ} {g : ℤ} {late late' : List ℕ} → Runs l w → LateIn l w t side late n g late'
-    → Runs (take n late') w × (length (take n late') ≤ w)
+    → Runs (take n late') w
 unfolding Runs
-late-runs {t = t} {side} {n} {late' = late'} runs lates = (
-  (λ a. dropped 2 runs.0 (asked t) (2 * a + side), lates.laid runs.0 runs.1),
-  omega (arith, length-take-le n late' lates.room, lates.few),
-)
+late-runs {t = t} {side} runs lates = (λ a. dropped 2 runs.0 (asked t) (2 * a + side), lates.laid runs.0 runs.1)
 
-pub lates-runs :
-    {l : List ℕ} {w : ℕ} {t s : Task} {side n : ℕ} {g : ℤ} {late late' map : List ℕ} → Lent l w t late map
-    → LateIn l w s side late n g late' → Runs (take n late') (length map) × (length (take n late') ≤ length map)
-lates-runs lent lates = rw lent.long (late-runs lent.runs lates)
+pub late-ordered :
+    {l : List ℕ} {w : ℕ} {t : Task} {side n : ℕ} {g : ℤ} {late late' : List ℕ} → Ordered l w → LateIn l w t side late n g late'
+    → Ordered (take n late') w
+late-ordered order lates = runs_ordered (late-runs (runs_in order) lates)
 
 -- ---- a count
 
 pub tallied :
-    {g : ℤ} (l : List ℕ) (w : ℕ) (t : Task) (x n r v : ℕ) (late late' map : List ℕ) → v ≡ w → LateIn l w t (x % 2) late n g late'
-    → length map ≡ v → ((z : Subset) → Laid (take n late') v z → Drawn map z) → r ≡ fallen map t.h t.k (x / 2) → Tallied l w t x r
+    {g : ℤ} (l : List ℕ) (w : ℕ) (t : Task) (x n r : ℕ) (late late' map : List ℕ) → LateIn l w t (x % 2) late n g late' → length map ≡ w
+    → ((z : Subset) → Laid (take n late') w z → Drawn map z) → r ≡ fallen map t.h t.k (x / 2) → Tallied l w t x r
 unfolding Tallied count
-tallied l w t x n r v late late' map long lates kept drawn e u laid =
+tallied l w t x n r late late' map lates long drawn e u laid =
     let z : Subset = λ a. dropped 2 u (asked t) (2 * a + x % 2) in
-    let wide : length map ≡ w = kept ∙ long in
     let whole : 2 * (x / 2) + x % 2 ≡ x = omega arith in
-    let strips = met-drawn map z (drawn z (rw long (lates.laid u laid))) (omega (arith, laid.wheel.some)) t.h t.k (x / 2) in
-    e ∙ rw wide at strips ∙ from-side w u laid.wheel (asked t) (x % 2) t.k (x / 2) ∙ ap (drops 2 u (asked t) t.k) whole
+    let strips = met-drawn map z (drawn z (lates.laid u laid)) (omega (arith, laid.wheel.some)) t.h t.k (x / 2) in
+    e ∙ rw long at strips ∙ from-side w u laid.wheel (asked t) (x % 2) t.k (x / 2) ∙ ap (drops 2 u (asked t) t.k) whole

@@ -3,10 +3,12 @@
 --     most_edges                the most edges of the runs that the room takes: two a slot
 --     few_edges                 up to so many edges the room has smaller arrays
 --     Lent l w t late map       what the work is lent: runs l of a wheel of w ticks, a task, room for its late runs, a map of the wheel
+--     Buffers n w late map      buffers for one question of n edges on w ticks: room for late runs, and a map
 --     Doubles n a b c d         arrays to double in on n ticks: a and b of bytes, c and d of 16 bits
 --     Lends n l m a b c d       all that a caller lends for wheels of up to n ticks: l for late runs, m for a map, the others to double in
+--     Doubling pre post w h k   a call takes every map of w ticks, and what it gives is the map's largest count and the first tick that has it
 --     Topped l w h k c a        the largest number of k strips that meet a set, for every set that the runs l lay out, and the first tick that has it
---     Outlined l m h k o        that number is known, or the map m is drawn, and the largest count along it is that number
+--     Outlined l w m h k o      that number is known (Some), or the map m is drawn, and the largest count along it is that number
 --     Highest l w t c a         the largest count half a tick after a tick, for every set of ticks that the runs lay out, and the first such tick
 --     Foremost l w t c o        c is the worst count and o the worst offset (rule 6) of every such set
 --     Nearest l w t g           g is the least margin of every such set
@@ -14,11 +16,10 @@
 --     Bears l w h k a b         b says whether from every tick no more than a of k strips meet a set that the runs l lay out
 --     Decides l w t b           b says whether such a set of usable ticks is firm (rule 7)
 --     Tallied l w t x c         c strips are dropped from half tick x (rule 4), for every such set
---     Told l w t ask r          the answer to what was asked: the worst, or the count from a half tick
---     Asked w ask               the half tick that was asked for lies on the wheel
 --
 -- Side 0 is at the ticks, side 1 half a tick after them.
-use Rattle.std.specs.Prelude.{◌≡◌, ◌↔◌, Bool, true, List, ℕ, ◌+◌, ◌*◌, ◌≤◌, ◌<◌, min, ℤ, length}
+use Rattle.std.specs.Prelude.{◌≡◌, ◌↔◌, Bool, true, List, ℕ, ◌+◌, ◌*◌, ◌≤◌, ◌<◌, min, ℤ, length, Option, Some, None}
+use Rattle.std.specs.Borrow.{Bor}
 use Rattle.rules.specs.Sums.{Subset, Largest}
 use Rattle.rules.specs.Supply.{count}
 use Rattle.rules.specs.Worst.{Worst, Firm}
@@ -27,12 +28,9 @@ use Rattle.limits.specs.Limits.{most_slots, asked, Within}
 use Rattle.limits.specs.declared.Task.{Task}
 use Rattle.runs.specs.Runs.{Laid, Runs}
 use Rattle.maps.specs.Maps.{Sized, Top, met}
+use Rattle.maps.specs.declared.Crest.{Crest}
 use Rattle.late.specs.Late.{late_room}
-use Rattle.room.specs.declared.Ask.{Ask}
-use Rattle.room.specs.declared.Ask.TheVariants as ask
 use Rattle.room.specs.declared.Peak.{Peak}
-use Rattle.room.specs.declared.Outline.{Outline}
-use Rattle.room.specs.declared.Outline.TheVariants as outline
 
 abbrev pub most_edges : ℕ
 most_edges = 2 * most_slots
@@ -46,6 +44,10 @@ pub record Lent (l : List ℕ) (w : ℕ) (t : Task) (late map : List ℕ) : Type
   pub room : min (late_room (length l)) w ≤ length late
   pub long : length map ≡ w
 
+pub record Buffers (n w : ℕ) (late map : List ℕ) : Type 0 where
+  pub room : min (late_room n) w ≤ length late
+  pub long : length map ≡ w
+
 pub record Doubles (n : ℕ) (a b c d : List ℕ) : Type 0 where
   pub low : n ≤ length a
   pub spare : n ≤ length b
@@ -57,12 +59,16 @@ pub record Lends (n : ℕ) (l m a b c d : List ℕ) : Type 0 where
   pub map : n ≤ length m
   pub doubling : Doubles n a b c d
 
+pub record Doubling (pre : Bor (List ℕ) → ℕ → ℕ → Type 0) (post : Bor (List ℕ) → ℕ → ℕ → Crest → Type 0) (w h k : ℕ) : Type 0 where
+  pub takes : (m : Bor (List ℕ)) → Sized m.now h k → 0 < k → length m.now ≡ w → pre m h k
+  pub gives : (m : Bor (List ℕ)) (c : Crest) → post m h k c → Top m.now h k c.drops c.at
+
 unfoldable pub Topped : List ℕ → ℕ → ℕ → ℕ → ℕ → ℕ → Type 0
 Topped l w h k c a = (z : Subset) → Laid l w z → Largest (met w z h k) w c a
 
-abbrev pub Outlined : List ℕ → List ℕ → ℕ → ℕ → Outline → Type 0
-Outlined l m h k (outline.Known c) = Topped l (length m) h k c.drops c.at
-Outlined l m h k outline.Drawn = Sized m h k × ((c a : ℕ) → Top m h k c a → Topped l (length m) h k c a)
+abbrev pub Outlined : List ℕ → ℕ → List ℕ → ℕ → ℕ → Option Crest → Type 0
+Outlined l w m h k (Some c) = Topped l w h k c.drops c.at
+Outlined l w m h k None = Sized m h k × (length m ≡ w) × ((c a : ℕ) → Top m h k c a → Topped l w h k c a)
 
 unfoldable pub Highest : List ℕ → ℕ → Task → ℕ → ℕ → Type 0
 Highest l w t c a = (u : Subset) → Laid l w u → Largest (λ i. count 2 u (asked t) (2 * i + 1)) w c a
@@ -84,12 +90,3 @@ Decides l w t b = (u : Subset) → Laid l w u → (b ≡ true) ↔ Firm u (asked
 
 unfoldable pub Tallied : List ℕ → ℕ → Task → ℕ → ℕ → Type 0
 Tallied l w t x c = (u : Subset) → Laid l w u → c ≡ count 2 u (asked t) x
-
-abbrev pub Told : List ℕ → ℕ → Task → Ask → Peak → Type 0
-Told l w t ask.Worst r = Found l w t r
-Told l w t (ask.From x) r = Tallied l w t x r.drops
-
--- A question asks within the wheel.
-abbrev pub Asked : ℕ → Ask → Type 0
-Asked w ask.Worst = Unit {0}
-Asked w (ask.From x) = x < 2 * w

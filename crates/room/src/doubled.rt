@@ -8,124 +8,52 @@ ghost use Rattle.room.specs.Room.{Doubles};
 use limits::Wheel;
 use maps::Crest;
 
-fn bytes_256(map: &[u8], h: usize, k: usize) -> Crest
-    requires { Sized map.now h k × (0 < k) × (k < byte_end) × (length map.now ≤ 256) }
+// Not inlined: a size's frame is taken only where that size is asked for.
+#[inline(never)]
+fn bytes_in<const N: usize>(map: &[u8], h: usize, k: usize) -> Crest
+    requires { Sized map.now h k × (0 < k) × (k < byte_end) × (length map.now ≤ N) × (N ≤ most_ticks) }
     ensures { Top map.now h k result.drops result.at }
 {
-    let mut here = [0u8; 256];
-    let mut there = [0u8; 256];
-    engine::by_bytes(map, &mut here, &mut there, h, k)
+    engine::by_bytes(map, &mut [0; N], &mut [0; N], h, k)
 }
 
-fn bytes_2048(map: &[u8], h: usize, k: usize) -> Crest
-    requires { Sized map.now h k × (0 < k) × (k < byte_end) × (length map.now ≤ 2048) }
+#[inline(never)]
+fn words_in<const N: usize>(map: &[u8], h: usize, k: usize) -> Crest
+    requires { Sized map.now h k × (byte_end ≤ k) × (length map.now ≤ N) × (N ≤ most_ticks) }
     ensures { Top map.now h k result.drops result.at }
 {
-    let mut here = [0u8; 2048];
-    let mut there = [0u8; 2048];
-    engine::by_bytes(map, &mut here, &mut there, h, k)
+    engine::by_words(
+        map,
+        &mut [0; N],
+        &mut [0; N],
+        &mut [0; N],
+        &mut [0; N],
+        h,
+        k,
+    )
 }
 
-fn bytes_4096(map: &[u8], h: usize, k: usize) -> Crest
-    requires { Sized map.now h k × (0 < k) × (k < byte_end) × (length map.now ≤ 4096) }
+fn in_size<const N: usize>(map: &[u8], h: usize, k: usize) -> Crest
+    requires { Sized map.now h k × (0 < k) × (length map.now ≤ N) × (N ≤ most_ticks) }
     ensures { Top map.now h k result.drops result.at }
 {
-    let mut here = [0u8; 4096];
-    let mut there = [0u8; 4096];
-    engine::by_bytes(map, &mut here, &mut there, h, k)
-}
-
-fn bytes_most(map: &[u8], h: usize, k: usize) -> Crest
-    requires { Sized map.now h k × (0 < k) × (k < byte_end) × (length map.now ≤ most_ticks) }
-    ensures { Top map.now h k result.drops result.at }
-{
-    let mut here = [0u8; Wheel::MOST_TICKS];
-    let mut there = [0u8; Wheel::MOST_TICKS];
-    engine::by_bytes(map, &mut here, &mut there, h, k)
-}
-
-fn words_256(map: &[u8], h: usize, k: usize) -> Crest
-    requires { Sized map.now h k × (byte_end ≤ k) × (length map.now ≤ 256) }
-    ensures { Top map.now h k result.drops result.at }
-{
-    let mut low = [0u8; 256];
-    let mut spare = [0u8; 256];
-    let mut here = [0u16; 256];
-    let mut there = [0u16; 256];
-    engine::by_words(map, &mut low, &mut spare, &mut here, &mut there, h, k)
-}
-
-fn words_2048(map: &[u8], h: usize, k: usize) -> Crest
-    requires { Sized map.now h k × (byte_end ≤ k) × (length map.now ≤ 2048) }
-    ensures { Top map.now h k result.drops result.at }
-{
-    let mut low = [0u8; 2048];
-    let mut spare = [0u8; 2048];
-    let mut here = [0u16; 2048];
-    let mut there = [0u16; 2048];
-    engine::by_words(map, &mut low, &mut spare, &mut here, &mut there, h, k)
-}
-
-fn words_4096(map: &[u8], h: usize, k: usize) -> Crest
-    requires { Sized map.now h k × (byte_end ≤ k) × (length map.now ≤ 4096) }
-    ensures { Top map.now h k result.drops result.at }
-{
-    let mut low = [0u8; 4096];
-    let mut spare = [0u8; 4096];
-    let mut here = [0u16; 4096];
-    let mut there = [0u16; 4096];
-    engine::by_words(map, &mut low, &mut spare, &mut here, &mut there, h, k)
-}
-
-fn words_most(map: &[u8], h: usize, k: usize) -> Crest
-    requires { Sized map.now h k × (byte_end ≤ k) × (length map.now ≤ most_ticks) }
-    ensures { Top map.now h k result.drops result.at }
-{
-    let mut low = [0u8; Wheel::MOST_TICKS];
-    let mut spare = [0u8; Wheel::MOST_TICKS];
-    let mut here = [0u16; Wheel::MOST_TICKS];
-    let mut there = [0u16; Wheel::MOST_TICKS];
-    engine::by_words(map, &mut low, &mut spare, &mut here, &mut there, h, k)
-}
-
-// Two calls lead to each larger size: a function called once is inlined, and its frame with it.
-fn wider(map: &[u8], h: usize, k: usize) -> Crest
-    requires { Sized map.now h k × (0 < k) }
-    ensures { Top map.now h k result.drops result.at }
-{
-    let w = map.len();
     if k < engine::BYTE_END {
-        if w <= 2048 {
-            return bytes_2048(map, h, k);
-        }
-        if w <= 4096 {
-            return bytes_4096(map, h, k);
-        }
-        return bytes_most(map, h, k);
+        bytes_in::<N>(map, h, k)
+    } else {
+        words_in::<N>(map, h, k)
     }
-    if w <= 2048 {
-        return words_2048(map, h, k);
-    }
-    if w <= 4096 {
-        return words_4096(map, h, k);
-    }
-    words_most(map, h, k)
 }
 
 pub fn doubled(map: &[u8], h: usize, k: usize) -> Crest
     requires { Sized map.now h k × (0 < k) }
     ensures { Top map.now h k result.drops result.at }
 {
-    if map.len() <= 256 {
-        if k < engine::BYTE_END {
-            return bytes_256(map, h, k);
-        }
-        return words_256(map, h, k);
+    match map.len() {
+        0..=256 => in_size::<256>(map, h, k),
+        257..=2048 => in_size::<2048>(map, h, k),
+        2049..=4096 => in_size::<4096>(map, h, k),
+        _ => in_size::<{ Wheel::MOST_TICKS }>(map, h, k),
     }
-    if k < engine::BYTE_END {
-        return wider(map, h, k);
-    }
-    wider(map, h, k)
 }
 
 // Doubling in lent arrays, as long as the map or longer.
@@ -142,7 +70,8 @@ pub fn lent(
     ensures { Top map.now h k result.drops result.at }
 {
     if k < engine::BYTE_END {
-        return engine::by_bytes(map, low, spare, h, k);
+        engine::by_bytes(map, low, spare, h, k)
+    } else {
+        engine::by_words(map, low, spare, here, there, h, k)
     }
-    engine::by_words(map, low, spare, here, there, h, k)
 }

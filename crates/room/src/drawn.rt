@@ -1,58 +1,31 @@
 // A map of the wheel, in sizes, for late runs that are laid out already.
-ghost use Rattle.std.specs.Prelude.{◌≤◌, ◌<◌, length};
-ghost use Rattle.limits.specs.Limits.{most_ticks, most_period, most_strips};
-ghost use Rattle.runs.specs.Runs.{Runs};
+ghost use Rattle.std.specs.Prelude.{◌≤◌, length};
+ghost use Rattle.limits.specs.Limits.{most_ticks, Within};
 ghost use Rattle.room.specs.Room.{Topped};
 
-use crate::work;
-use limits::Wheel;
+use crate::{doubled, work};
+use limits::{Task, Wheel};
 use maps::Crest;
+use runs::Ticks;
 
-fn on_256(late: &[u16], w: usize, h: usize, k: usize) -> Crest
-    requires { Runs late.now w × (length late.now ≤ w) × (w ≤ 256) × (h ≤ most_period) × (0 < k) × (k ≤ most_strips) }
-    ensures { Topped late.now w h k result.drops result.at }
+// Not inlined: what decides without a map takes no frame of one.
+#[inline(never)]
+fn on<const N: usize>(late: Ticks, task: Task) -> Crest
+    requires { (length late.edges.now ≤ late.w) × (late.w ≤ N) × (N ≤ most_ticks) × Within task }
+    ensures { Topped late.entry.edges.now late.entry.w task.h task.k result.drops result.at }
 {
-    let mut map = [0u8; 256];
-    work::top(late, w, h, k, &mut map)
-}
-
-fn on_2048(late: &[u16], w: usize, h: usize, k: usize) -> Crest
-    requires { Runs late.now w × (length late.now ≤ w) × (w ≤ 2048) × (h ≤ most_period) × (0 < k) × (k ≤ most_strips) }
-    ensures { Topped late.now w h k result.drops result.at }
-{
-    let mut map = [0u8; 2048];
-    work::top(late, w, h, k, &mut map)
-}
-
-fn on_4096(late: &[u16], w: usize, h: usize, k: usize) -> Crest
-    requires { Runs late.now w × (length late.now ≤ w) × (w ≤ 4096) × (h ≤ most_period) × (0 < k) × (k ≤ most_strips) }
-    ensures { Topped late.now w h k result.drops result.at }
-{
-    let mut map = [0u8; 4096];
-    work::top(late, w, h, k, &mut map)
-}
-
-fn on_most(late: &[u16], w: usize, h: usize, k: usize) -> Crest
-    requires { Runs late.now w × (length late.now ≤ w) × (w ≤ most_ticks) × (h ≤ most_period) × (0 < k) × (k ≤ most_strips) }
-    ensures { Topped late.now w h k result.drops result.at }
-{
-    let mut map = [0u8; Wheel::MOST_TICKS];
-    work::top(late, w, h, k, &mut map)
+    work::crest(late, task, &mut [0; N][..late.w], doubled::doubled)
 }
 
 // The largest count of k strips along late runs.
-pub fn top(late: &[u16], w: usize, h: usize, k: usize) -> Crest
-    requires { Runs late.now w × (length late.now ≤ w) × (h ≤ most_period) × (0 < k) × (k ≤ most_strips) }
-    ensures { Topped late.now w h k result.drops result.at }
+pub fn top(late: Ticks, task: Task) -> Crest
+    requires { (length late.edges.now ≤ late.w) × Within task }
+    ensures { Topped late.entry.edges.now late.entry.w task.h task.k result.drops result.at }
 {
-    if w <= 256 {
-        return on_256(late, w, h, k);
+    match late.w {
+        0..=256 => on::<256>(late, task),
+        257..=2048 => on::<2048>(late, task),
+        2049..=4096 => on::<4096>(late, task),
+        _ => on::<{ Wheel::MOST_TICKS }>(late, task),
     }
-    if w <= 2048 {
-        return on_2048(late, w, h, k);
-    }
-    if w <= 4096 {
-        return on_4096(late, w, h, k);
-    }
-    on_most(late, w, h, k)
 }

@@ -4,14 +4,11 @@
 --     singly j     the job j with that task
 --     Long t       one strip of t is within the first engine's bounds, and its number of strips within this engine's
 --     Ready l j    the same of an accepted job on a slot buffer l
---     Desk r l m   buffers for the most runs, late runs and ticks that there are
-use Rattle.std.specs.Prelude.{◌≡◌, List, ℕ, ◌≤◌, ◌<◌, length}
-use Rattle.limits.specs.Limits.{most_ticks, most_in_rounds, task_of, Within}
+use Rattle.std.specs.Prelude.{List, ℕ, ◌≤◌, ◌<◌}
+use Rattle.limits.specs.Limits.{most_in_rounds, task_of, Within}
 use Rattle.limits.specs.declared.Task.{Task}
 use Rattle.records.specs.Jobs.{Good}
 use Rattle.records.specs.declared.Job.{Job}
-use Rattle.late.specs.Late.{late_room}
-use Rattle.room.specs.Room.{most_edges}
 
 abbrev pub single : Task → Task
 single t = task_of t.e t.d t.h 0 1
@@ -29,8 +26,3 @@ pub record Long (t : Task) : Type 0 where
 pub record Ready (l : List ℕ) (j : Job) : Type 0 where
   pub good : Good l (singly j)
   pub long : Long j.task
-
-pub record Desk (r l m : List ℕ) : Type 0 where
-  pub runs : length r ≡ most_edges
-  pub late : length l ≡ late_room most_edges
-  pub map : length m ≡ most_ticks

@@ -4,21 +4,21 @@
 --     rounds_body r l                    all of a task record on a slot buffer: those of one strip, then 9 and 10 by this engine's bound
 --     rounds_judge_refusal t l reply     as judging checks them: 1, 2, the body's
 --     rounds_point_refusal t l x         as counting checks them: 1, the body's, 11
---     rounds_checked r l                 the job of an accepted task record, or its refusal
+--     RoundsChecked r l x                x is the job of an accepted task record, or its refusal
 --     rounds_counted_at t l x            the drop count from half tick x, 0 beside a refusal
 --     RoundsJudged t l reply n after     a whole call: task t, slots l, reply before and after, refusal number n
 --
 -- The answer is judging's own: `Answered` of crates/judge/specs/Judge.antt has no bound on k.
-use Rattle.std.specs.Prelude.{◌≡◌, ◌⊎◌, List, ℕ, ◌<◌, pos}
+use Rattle.std.specs.Prelude.{◌≡◌, ◌⊎◌, List, ℕ, ◌<◌, pos, Result}
 use Rattle.rules.specs.Supply.{count}
 use Rattle.octets.specs.Octets.{over}
-use Rattle.limits.specs.Refusal.{◌otherwise◌, if_none}
+use Rattle.limits.specs.Refusal.{◌otherwise◌, if_none, Checks}
+use Rattle.limits.specs.declared.Refusal.{Refusal}
 use Rattle.limits.specs.Limits.{rounds_refusal}
 use Rattle.records.specs.Records.{task_record, ticks_of, asked_of, answer_bytes}
 use Rattle.records.specs.Refusals.{sizes, room, body_refusal, beyond, job_of}
 use Rattle.records.specs.declared.TaskRecord.{TaskRecord}
-use Rattle.records.specs.declared.Checked.{Checked}
-use Rattle.records.specs.declared.Checked.TheVariants.{Accepted, Refused}
+use Rattle.records.specs.declared.Job.{Job}
 use Rattle.judge.specs.Judge.{Answered}
 
 abbrev pub one_strip : TaskRecord → TaskRecord
@@ -47,8 +47,8 @@ rounds_point_refusal task slots offset =
     otherwise rounds_body (task_record task) slots
     otherwise beyond (task_record task).w offset
 
-unfoldable pub rounds_checked : TaskRecord → List ℕ → Checked
-rounds_checked r slots = if_none (rounds_body r slots) (Accepted (job_of r)) (Refused (rounds_body r slots))
+abbrev pub RoundsChecked : TaskRecord → List ℕ → Result Job Refusal → Type 0
+RoundsChecked r slots = Checks (rounds_body r slots) (job_of r)
 
 unfoldable pub rounds_counted_at : List ℕ → List ℕ → ℕ → ℕ
 rounds_counted_at task slots x =

@@ -4,6 +4,7 @@
 --     Lay l to u               up to tick `to` the runs of l are those of u: even runs out of it, odd ones in it
 --     Laid l w u               the same of a whole wheel within its bound
 --     Runs l w                 l lays out some set of ticks of a wheel of w ticks
+--     Ordered l w              what that comes to: a wheel within its bound, and edges in order within it (ordered_of and runs-ordered)
 --     LaidIn l l' r w u        a buffer l that has become l': as long as before, and its first r entries lay out u
 --     Turn l n at step r l'    the first r entries of l' are the first n of l, with an edge at `at` where the parity of n isn't step
 --
@@ -28,6 +29,11 @@ pub record Laid (l : List ℕ) (w : ℕ) (u : Subset) : Type 0 where
 
 unfoldable pub Runs : List ℕ → ℕ → Type 0
 Runs l w = (u : Subset) × Laid l w u
+
+pub record Ordered (l : List ℕ) (w : ℕ) : Type 0 where
+  pub some : 0 < w
+  pub most : w ≤ most_ticks
+  pub order : (i : ℕ) → edge l w i ≤ edge l w (suc i)
 
 pub record LaidIn (l l' : List ℕ) (r w : ℕ) (u : Subset) : Type 0 where
   pub long : length l' ≡ length l

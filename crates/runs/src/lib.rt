@@ -5,25 +5,24 @@ ghost use Rattle.std.specs.Prelude.{◌≡◌, suc, ◌≤◌, ◌<◌, length};
 ghost use Rattle.limits.specs.Limits.{most_ticks};
 ghost use Rattle.runs.specs.Runs.{edge, Turn};
 
-// An edge as a number. Its bound is stated here once.
-fn wide(x: u16) -> usize
-    ensures { (result ≡ x) × (result < 65536) }
-{
-    x as usize
-}
+mod ticks;
+
+pub use ticks::Ticks;
 
 // Where run i ends. What the list lacks is read as w.
+#[tactic(auto, unfolding(crate::specs::Runs::edge))]
 pub fn end(runs: &[u16], w: usize, i: usize) -> usize
     ensures { result ≡ edge runs.now w (suc i) }
 {
-    if i < runs.len() {
-        return wide(runs[i]);
+    match runs.get(i) {
+        Some(at) => usize::from(*at),
+        None => w,
     }
-    w
 }
 
 // From tick `at` on the ticks are out of the set (step 0) or in it (step 1). The first n edges lay out what is before; an edge is written only
-// where they don't leave off so by themselves. The result is how many edges there are now.
+// where they don't leave off so by themselves. The result is how many edges there are now. Buffer and count stay apart: both are the caller's to the
+// end, and of a value that held the `&mut` each clause would speak twice, as lent and as left. The step is a number, since it is n's parity.
 pub fn turn(runs: &mut [u16], n: usize, at: usize, step: usize) -> usize
     requires { (n < length runs.old) × (at ≤ most_ticks) × (step ≤ 1) }
     ensures { Turn runs.old n at step result runs.new }

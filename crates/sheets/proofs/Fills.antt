@@ -1,33 +1,23 @@
 -- The sheet, put into its buffer line by line. Assumes nothing.
 use mathlib.Core.Path.{◌≡◌, refl, sym, ap, ◌∙◌}
-use mathlib.Core.Bool.{Bool, true, false, not}
+use mathlib.Core.Bool.{Bool, true, false}
 use mathlib.Core.List.{List, [], ◌++◌, append-nil}
-use Prim.Native.Nat.{ℕ, ◌+◌, ◌-◌, ◌*◌, ◌%◌, ◌≤◌, ◌<◌}
-use native.Mathlib.Nat.{le_antisymm}
+use Prim.Native.Nat.{ℕ, ◌+◌, ◌*◌, ◌%◌, ◌≤◌, ◌<◌}
 use native.Mathlib.Omega.{arith}
-use lib.Dec.{eqb, ltb}
-use lib.ListN.{length, take, drop, replicate}
-use lib.Seq.{length-take-le}
-use borrow.Author.Tests.{ltb-true, ltb-false, lt-ltb, le-ltb, le-leb, eq-eqb, ne_eqb}
+use lib.Dec.{ltb}
+use lib.ListN.{length, take, drop, replicate, length-append, length-drop}
+use lib.Seq.{length-take-le, take_at, drop_at, drop-drop}
+use borrow.Author.Tests.{ltb-true, ltb-false, lt-ltb, le-leb, eq-eqb, ne_eqb}
 use Rattle.io.specs.Counts.{IsPrefixLen}
-use Rattle.records.specs.Records.{task_bytes, slot_bytes, reply_bytes, whole, part}
-use Rattle.records.proofs.Parts.{cut-part}
+use Rattle.records.specs.Records.{task_bytes, reply_bytes, whole, part}
 use Rattle.judge.specs.Judge.{Judged}
 use Rattle.lines.specs.Lines.{longest_line, refused_long, line_of, refused_line, fitting, line_for, Put}
 use Rattle.lines.proofs.Texts.{put-none, put_then}
 use Rattle.sheets.specs.Sheets.{most_bytes, none, more, rest, bad, Filled, RowPut, RowsPut}
 
-pub bad-tasks : (l s : List ℕ) → most_bytes < length l → true ≡ bad l s
+bad-tasks : (l s : List ℕ) → most_bytes < length l → true ≡ bad l s
 unfolding bad
 bad-tasks l s t = rw (lt-ltb most_bytes (length l) t)
-
-pub bad-slots : (l s : List ℕ) → length l ≤ most_bytes → most_bytes < length s → true ≡ bad l s
-unfolding bad
-bad-slots l s t n = rw (le-ltb most_bytes (length l) t, lt-ltb most_bytes (length s) n)
-
-pub bad-size : (l s : List ℕ) → length l ≤ most_bytes → length s ≤ most_bytes → not (eqb (length s % slot_bytes) 0) ≡ bad l s
-unfolding bad
-bad-size l s t n = rw (le-ltb most_bytes (length l) t, le-ltb most_bytes (length s) n)
 
 pub bad-short : (l s : List ℕ) → bad l s ≡ false → length l ≤ most_bytes
 bad-short l s f = go (ltb most_bytes (length l)) refl
@@ -62,40 +52,62 @@ row_put task slots b d a at n r j s l p =
       short = p.1;
     }
 
--- The first i of n lines stand at the start of the buffer.
-pub record Going (l slots b d : List ℕ) (n at i : ℕ) : Type 0 where
-  pub upto : i ≤ n
+-- The lines of the first i records stand at the start of the buffer, and the other records' bytes are left.
+pub record Going (l slots b d left : List ℕ) (at i : ℕ) : Type 0 where
+  pub upto : i ≤ whole l
+  pub others : left ≡ drop (task_bytes * i) l
   pub put : RowsPut l slots b i at d
   pub same : length d ≡ length b
 
-pub going-none : (l slots b : List ℕ) (n : ℕ) → Going l slots b b n 0 0
-going-none l slots b n =
+pub going-none : (l slots b : List ℕ) → Going l slots b b l 0 0
+going-none l slots b =
     record {
       upto = omega arith;
+      others = refl;
       put = record { text = []; rows = none; put = put-none b 0; short = omega arith };
       same = refl;
     }
 
-pub going_more :
-    {l slots b d e : List ℕ} {n at i m : ℕ} → Going l slots b d n at i → i < n
-    → RowPut (take (task_bytes * i + task_bytes - task_bytes * i) (drop (task_bytes * i) l)) slots d at m e → length e ≡ length d
-    → Going l slots b e n m (i + 1)
-going_more {l} {slots} {b} {d} {e} {n} {at} {i} {m} g u r s =
-    let one : RowPut (part l i) slots d at m e = rw (cut-part l i) at r in
-    record {
-      upto = omega arith;
-      put =
-          record {
-            text = g.put.text ++ one.text;
-            rows = more g.put.rows one.row;
-            put = put_then (omega arith) g.put.put one.put;
-            short = omega (arith, g.put.short, one.short);
-          };
-      same = s ∙ g.same;
-    }
+-- A whole record is left, and it is the next one.
+module _
+    {l slots b d left : List ℕ} {at i : ℕ} (task others : List ℕ) (g : Going l slots b d left at i) (e : left ≡ task ++ others)
+    (w : length task ≡ task_bytes) where
+  pub going-room : i < whole l
+  going-room = omega (arith, ap length (sym g.others ∙ e), length-append task others, length-drop (task_bytes * i) l)
 
-pub going-all : {l slots b d : List ℕ} {n at i : ℕ} → Going l slots b d n at i → n ≤ i → RowsPut l slots b n at d
-going-all {l} {slots} {b} {d} {n} {at} {i} g u = let e : i ≡ n = le_antisymm g.upto u in rw e at g.put
+  next : task ≡ part l i
+  unfolding part
+  next = sym (take_at task others task_bytes w) ∙ ap (take task_bytes) (sym e ∙ g.others)
+
+  rest-left : others ≡ drop (task_bytes * (i + 1)) l
+  rest-left =
+      sym (drop_at task others task_bytes w)
+      ∙ ap (drop task_bytes) (sym e ∙ g.others)
+      ∙ drop-drop task_bytes (task_bytes * i) l
+      ∙ ap (λ n. drop n l) (let k : task_bytes * i + task_bytes ≡ task_bytes * (i + 1) = omega arith in k)
+
+  pub going_more : {o : List ℕ} {m : ℕ} → RowPut task slots d at m o → length o ≡ length d → Going l slots b o others m (i + 1)
+  going_more {o} {m} r s =
+      let one : RowPut (part l i) slots d at m o = rw next at r in
+      record {
+        upto = omega (arith, going-room);
+        others = rest-left;
+        put =
+            record {
+              text = g.put.text ++ one.text;
+              rows = more g.put.rows one.row;
+              put = put_then (omega (arith, g.put.put.behind)) g.put.put one.put;
+              short = omega (arith, g.put.short, one.short);
+            };
+        same = s ∙ g.same;
+      }
+
+-- Less than a record is left.
+pub going-all :
+    {l slots b d left : List ℕ} {at i : ℕ} → Going l slots b d left at i → length left < task_bytes → RowsPut l slots b (whole l) at d
+going-all {l} {slots} {b} {d} {left} {at} {i} g f =
+    let e : i ≡ whole l = omega (arith, g.upto, ap length g.others, length-drop (task_bytes * i) l) in
+    rw e at g.put
 
 -- One line alone, whole records, and whole records with a part behind them.
 module _ (l slots b : List ℕ) where

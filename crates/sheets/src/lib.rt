@@ -25,7 +25,8 @@ fn row(task: &[u8], slots: &[u8], out: &mut [u8], at: usize) -> usize
     ensures { RowPut task.now slots.now out.old at result out.new }
 {
     let mut reply = [0u8; Answer::BYTES];
-    judge::judge(task, slots, &mut reply);
+    // What is refused stands in the answer.
+    let _ = judge::judge(task, slots, &mut reply);
     lines::line(&reply, out, at)
 }
 
@@ -34,29 +35,19 @@ fn rows(tasks: &[u8], slots: &[u8], out: &mut [u8]) -> usize
     requires { longest_line * whole tasks.now ≤ length out.old }
     ensures { RowsPut tasks.now slots.now out.old (whole tasks.now) result out.new }
 {
-    let n = tasks.len() / TaskRecord::BYTES;
     let mut at = 0;
-    let mut i = 0;
-    while i < n {
-        let from = TaskRecord::BYTES * i;
-        let to = from + TaskRecord::BYTES;
-        at = row(&tasks[from..to], slots, out, at);
-        i += 1;
+    for task in tasks.chunks_exact(TaskRecord::BYTES) {
+        at = row(task, slots, out, at);
     }
     at
 }
 
 // Whether "- 1 0 0 0" is the only line.
+#[tactic(auto, unfolding(crate::specs::Sheets::bad))]
 fn only(tasks: &[u8], slots: &[u8]) -> bool
     ensures { result ≡ bad tasks.now slots.now }
 {
-    if MOST_BYTES < tasks.len() {
-        return true;
-    }
-    if MOST_BYTES < slots.len() {
-        return true;
-    }
-    slots.len() % Slot::BYTES != 0
+    MOST_BYTES < tasks.len() || MOST_BYTES < slots.len() || slots.len() % Slot::BYTES != 0
 }
 
 // The whole sheet, put over the start of `out`.
@@ -74,13 +65,14 @@ pub fn sheet(tasks: &[u8], slots: &[u8], out: &mut [u8; MOST_TEXT]) -> usize
     lines::refused(out, at)
 }
 
-// Reads to the end of the file, or until the buffer is full, and answers how many bytes came.
-fn fill(file: &mut impl Read, buf: &mut [u8]) -> io::Result<usize>
+// Reads to the end of the input, or until the buffer is full, and answers how many bytes came. One read gives any number of them, so the place
+// is kept by hand.
+pub fn fill(input: &mut impl Read, buf: &mut [u8]) -> io::Result<usize>
     ensures { IfOk result (λ n. IsPrefixLen n buf.new) }
 {
     let mut done = 0;
     while done < buf.len() {
-        let n = file.read(&mut buf[done..])?;
+        let n = input.read(&mut buf[done..])?;
         if n == 0 {
             break;
         }
@@ -105,10 +97,7 @@ fn read(rt: &impl Files, path: &[u8], buf: &mut [u8]) -> usize
     let Ok(name) = str::from_utf8(path) else {
         return buf.len();
     };
-    match load(rt, name, buf) {
-        Ok(n) => n,
-        Err(_) => buf.len(),
-    }
+    load(rt, name, buf).unwrap_or(buf.len())
 }
 
 // Prints the sheet of two files, in one write, and answers how many bytes it has.

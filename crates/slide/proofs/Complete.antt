@@ -12,7 +12,7 @@ use lib.ListN.{length}
 use Rattle.rules.specs.Sums.{Largest}
 use Rattle.rules.proofs.Sums.{Best, best}
 use Rattle.maps.specs.Maps.{Mapped, fallen, Top, Sized}
-use Rattle.maps.proofs.Strips.{met-drawn}
+use Rattle.maps.proofs.Strips.{met-drawn, top-turns}
 use Rattle.maps.proofs.Rises.{Start, rise, rise-start}
 use Rattle.slide.specs.Slides.{Seen, Round}
 use Rattle.slide.proofs.Slides.{Starts}
@@ -35,7 +35,7 @@ candidate l m s k t (z, laid, drawn) inside less =
     let r = rise w z s k t (suc t) (omega arith) on (omega (arith, same t, same (suc t))) in
     record { strip = r.strip; few = r.few; start = rise-start laid.lay r }
 
-pub top_of :
+top_of :
     (l m : List ℕ) (s k c t i : ℕ) → Mapped l m → Round m s k → Starts l m s k c t i → length l ≤ i → Top m s k c t
 top_of l m s k c t i mapped round starts all =
     let seen = go b.place (omega (arith, largest.inside)) (λ x less. rw largest.hit (largest.least x less)) in
@@ -80,3 +80,7 @@ round-of {m} {h} sized =
       };
       step = step;
     }
+
+pub top-all :
+    {l m : List ℕ} {h k c t i : ℕ} → Mapped l m → Sized m h k → Starts l m (h % length m) k c t i → length l ≤ i → Top m h k c t
+top-all mapped sized starts all = top-turns _ _ _ _ _ (top_of _ _ _ _ _ _ _ mapped (round-of sized) starts all)

@@ -1,11 +1,11 @@
 -- Sliding back from a start of a late run, and the best of what was seen on the way.
 --
 -- In order: which is better; a step back; ranks; the steps back from one start; all starts. Assumes nothing.
-use mathlib.Core.Path.{◌≡◌, refl, sym, ap, ◌∙◌}
-use mathlib.Core.Logic.{inl, inr, ⊎_elim}
+use mathlib.Core.Path.{◌≡◌, sym, ap, ◌∙◌}
+use mathlib.Core.Logic.{⊎_elim}
 use mathlib.Core.List.{List}
 use Prim.Native.Nat.{ℕ, suc, ◌+◌, ◌-◌, ◌*◌, ◌%◌, ◌≤◌, ◌<◌, max, zero-le}
-use native.Mathlib.Nat.{add-mod-mod, mod-lt, max-eq_left, max-eq_right, le_refl}
+use native.Mathlib.Nat.{add-mod-mod, max-eq_left, max-eq_right, le_refl}
 use native.Mathlib.Omega.{arith}
 use lib.ListN.{length, get_or}
 use Rattle.limits.specs.Limits.{most_ticks, most_strips}
@@ -13,7 +13,7 @@ use Rattle.rules.proofs.Sums.{le-or-lt}
 use Rattle.runs.specs.Runs.{edge}
 use Rattle.maps.specs.Maps.{fallen}
 use Rattle.maps.proofs.Strips.{strips-front, strips-back, fallen-none, fallen-most}
-use Rattle.slide.specs.Slides.{NoBetter, Seen, Hit, Pick, Ranked, Slid, Round}
+use Rattle.slide.specs.Slides.{NoBetter, Seen, Hit, Ranked, Slid, Round}
 use Rattle.maps.proofs.Places.{place-first, place-before, one_place, place-behind}
 
 -- ---- which is better
@@ -30,16 +30,6 @@ better {c} {t} {c'} {t'} {c''} {t''} a b =
           let right : c' ≡ c'' = omega arith in
           omega (arith, a.first left, b.first right);
     }
-
-pub keeps : {c t d p : ℕ} → NoBetter d p c t → Pick c t d p c t
-keeps n = record { old = itself _ _; new = n; one = inl (refl, refl) }
-
-pub takes : {c t d p : ℕ} → NoBetter c t d p → Pick c t d p d p
-takes n = record { old = n; new = itself _ _; one = inr (refl, refl) }
-
-pick-hit :
-    {m : List ℕ} {s k c t d p c' t' : ℕ} → Pick c t d p c' t' → Hit m s k c t → Hit m s k d p → Hit m s k c' t'
-pick-hit pick old new = ⊎_elim (λ w. rw (w.0, w.1) old) (λ w. rw (w.0, w.1) new) pick.one
 
 -- ---- a step back
 
@@ -183,42 +173,6 @@ module _
 pub back-few : {m : List ℕ} {s k start top drops gone p q n : ℕ} → Round m s k → Back m s k start top drops gone p q n → gone ≤ n
 back-few {m} {s} {q = q} {n} round b = omega (arith, b.taken, fallen-most m s n q round.sized.bits)
 
--- All strips of the start are taken off: c at t is the count and the tick of the top.
-module _
-    {m : List ℕ} {s k start top drops gone p q n c t : ℕ} (b : Back m s k start top drops gone p q n) (end : k ≤ n)
-    (ranked : Ranked top c t) where
-  back-gone : gone ≡ fallen m s k start
-  back-gone =
-      let all : n ≡ k = omega (arith, b.some) in
-      let whole : q ≡ start = b.behind ∙ ap (λ i. (p + i * s) % length m) (sym all) ∙ b.arrives in
-      rw (b.taken, all, whole) refl
-
-  pub back_found : (t ≡ b.at) × (c + gone ≡ fallen m s k b.at + (k + 1))
-  back_found =
-      let rank = b.rank in
-      (omega (arith, rank.rank.rank), omega (arith, rank.rank.rank, rank.beside.count, back-gone))
-
-  pub back_end :
-      {c₀ t₀ d c' t' : ℕ} → Hit m s k c₀ t₀ → d ≡ c + gone - (k + 1) → Pick c₀ t₀ d t c' t' → Slid m s k start c₀ t₀ c' t'
-  back_end {d = d} hit e pick =
-      let count : fallen m s k b.at ≡ d = omega (arith, back_found) in
-      let there : t ≡ b.at = back_found.0 in
-      record {
-        old = pick.old;
-        new = λ i x few below arrives. better (rw (count, sym there) at (b.seen i x (omega arith) below arrives)) pick.new;
-        hit = pick-hit pick hit (rw there (record { inside = b.rank.beside.inside; count = count }));
-      }
-
--- No strip arrives past the wheel's end.
-pub back_none :
-    {m : List ℕ} {s k start c t : ℕ} → Hit m s k c t → length m ≤ start → Slid m s k start c t c t
-back_none {m} {s} {c = c} {t} hit past =
-    record {
-      old = itself c t;
-      new = λ i x less inside arrives. absurd (omega (arith, mod-lt (x + i * s) {m = length m} (omega arith)));
-      hit = hit;
-    }
-
 -- ---- all starts
 
 -- Tick 0 is seen, and all ticks from which a strip arrives at a start of a late run that is listed before entry i.
@@ -229,15 +183,6 @@ pub record Starts (l m : List ℕ) (s k c t i : ℕ) : Type 0 where
   pub seen :
       (j n p : ℕ) → j < i → j % 2 ≡ 0 → n < k → p < length m → (p + n * s) % length m ≡ get_or l j (length m)
       → Seen m s k c t p
-
-pub starts_none : {l m : List ℕ} {s k c : ℕ} → Round m s k → c ≡ fallen m s k 0 → Starts l m s k c 0 0
-starts_none {c = c} round count =
-    record {
-      hit = record { inside = round.sized.some; count = sym count };
-      even = refl;
-      zero = rw (sym count) (itself c 0);
-      seen = λ j n p none. absurd (omega arith);
-    }
 
 pub starts-next :
     {l m : List ℕ} {s k c t i a c' t' : ℕ} → Starts l m s k c t i → a ≡ edge l (length m) (suc i) → Slid m s k a c t c' t'

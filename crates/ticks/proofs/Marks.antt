@@ -3,13 +3,13 @@ use mathlib.Core.Path.{◌≡◌, sym, ap, ◌∙◌}
 use mathlib.Core.Logic.{⊎_elim}
 use mathlib.Core.Bool.{true, false, cond, ◌&&◌, and-true, and-false}
 use mathlib.Core.List.{List}
-use Prim.Native.Nat.{ℕ, zero, suc, ◌+◌, ◌-◌, ◌*◌, ◌≤◌, ◌<◌}
+use Prim.Native.Nat.{ℕ, zero, suc, ◌+◌, ◌-◌, ◌*◌, ◌≤◌, ◌<◌, min}
 use native.Mathlib.Nat.{le_refl, eq-or-lt_of_le, add-mul, one-mul, zero-mul, mul-zero, mul-le-mul_right, zero-lt-suc}
 use native.Mathlib.Numerals.{add-one}
 use native.Mathlib.Omega.{arith}
 use lib.Dec.{ltb, eqb}
 use lib.ListN.{length, get_or}
-use borrow.Author.Tests.{lt-ltb, le-ltb, ltb-true, eq-eqb, ne_eqb}
+use borrow.Author.Tests.{lt-ltb, le-ltb, ltb-true, eq-eqb}
 use Rattle.rules.specs.Sums.{Subset, bit, number}
 use Rattle.rules.specs.Usable.{Table, grid}
 use Rattle.rules.specs.Grant.{first, grid_ticks}
@@ -17,25 +17,9 @@ use Rattle.rules.proofs.Sums.{le-or-lt, and_left, and_right, and_both, bit_le, n
 use Rattle.limits.specs.Limits.{most_ticks}
 use Rattle.limits.specs.declared.Grid.{Grid}
 use Rattle.runs.specs.Runs.{LaidIn}
-use Rattle.ticks.specs.Ticks.{Span, Slotted, met_first, met_at, opens_at, free_of, GivenRow, WholeRow, Past, GridFits}
+use Rattle.ticks.specs.Ticks.{Span, Slotted, met_first, met_at, opens_at, free_of, GivenRow, WholeRow, GridFits}
 use Rattle.ticks.proofs.Order.{ended, Ordered}
 use Rattle.ticks.proofs.Laying.{Lays, Row, Laying, laying-start, laying-more, laying-order, laying-next, laying-skip, laying-end}
-
--- ---- a mark and its bit
-
-pub free-yes : (m : ℕ) → m ≡ 1 → 1 ≡ bit (eqb m 1)
-unfolding bit
-free-yes m e = sym (ap bit (eq-eqb m 1 e))
-
-pub free-no : (m : ℕ) → (m ≡ 1 → ⊥) → 0 ≡ bit (eqb m 1)
-unfolding bit
-free-no m n = sym (ap bit (ne_eqb m 1 n))
-
-pub given-free : (m s j : ℕ) → m ≡ 1 → ltb s j ≡ (eqb m 1 && ltb s j)
-given-free m s j e = sym (ap (λ b. b && ltb s j) (eq-eqb m 1 e))
-
-pub given-taken : (m s j : ℕ) → (m ≡ 1 → ⊥) → eqb m 1 ≡ (eqb m 1 && ltb s j)
-given-taken m s j n = ne_eqb m 1 n ∙ sym (ap (λ b. b && ltb s j) (ne_eqb m 1 n))
 
 pub given-few : (m s j : ℕ) → (eqb m 1 && ltb s j) ≡ true → s < j
 given-few m s j e = ltb-true s j (and_right (eqb m 1) _ e)
@@ -103,13 +87,12 @@ module _ (l : List ℕ) (g : Grid) (all j : ℕ) (some : 0 < length l * g.v) (e 
   upto : number (free_of l) (length l) ≡ number (free_of l) last + bit (free_of l last)
   upto = let p : length l ≡ last + 1 = omega (arith, long) in ap (number (free_of l)) p ∙ number_more (free_of l) last
 
-  pub met-last : get_or l last 0 ≡ 1 → all ≤ j → 0 ≡ met_first (length l * g.v) (granted l g j) (length l)
+  pub met-last : eqb (get_or l last 0) 1 ≡ true → all ≤ j → 0 ≡ met_first (length l * g.v) (granted l g j) (length l)
   unfolding first free_of bit
   met-last free enough =
-      let mine : free_of l last ≡ true = eq-eqb _ 1 free in
-      let one : bit (free_of l last) ≡ 1 = ap bit mine in
+      let one : bit (free_of l last) ≡ 1 = ap bit free in
       sym (met-is (length l) g.v g.loss (first (free_of l) j) long
-      ∙ ap (λ b. cond b 0 (length l * g.v)) (and_both (free_of l last) _ mine (lt-ltb (number (free_of l) last) j (omega (arith, upto, e)))))
+      ∙ ap (λ b. cond b 0 (length l * g.v)) (and_both (free_of l last) _ free (lt-ltb (number (free_of l) last) j (omega (arith, upto, e)))))
 
   -- It is granted only where all the free slots are.
   pub met-few : j < all → length l * g.v ≡ met_first (length l * g.v) (granted l g j) (length l)
@@ -119,16 +102,13 @@ module _ (l : List ℕ) (g : Grid) (all j : ℕ) (some : 0 < length l * g.v) (e 
       ∙ ap (λ b. cond (free_of l last && b) 0 (length l * g.v)) (le-ltb (number (free_of l) last) j (omega (arith, upto, e, bit_le (free_of l last))))
       ∙ ap (λ b. cond b 0 (length l * g.v)) (and-false (free_of l last)))
 
-  pub met-taken : (get_or l last 0 ≡ 1 → ⊥) → length l * g.v ≡ met_first (length l * g.v) (granted l g j) (length l)
+  pub met-taken : eqb (get_or l last 0) 1 ≡ false → length l * g.v ≡ met_first (length l * g.v) (granted l g j) (length l)
   unfolding first free_of
   met-taken taken =
       sym (met-is (length l) g.v g.loss (first (free_of l) j) long
-      ∙ ap (λ b. cond (b && ltb (number (free_of l) last) j) 0 (length l * g.v)) (ne_eqb _ 1 taken))
+      ∙ ap (λ b. cond (b && ltb (number (free_of l) last) j) 0 (length l * g.v)) taken)
 
 -- ---- granted slots one behind the other
-
-pub row-none : (l : List ℕ) (i seen j : ℕ) → i ≤ length l → GivenRow l i seen j i
-row-none l i seen j inside = record { low = le_refl i; high = inside; given = λ y low high. absurd (omega arith) }
 
 pub row_more :
     (l : List ℕ) (i seen j k : ℕ) → GivenRow l i seen j k → k < length l
@@ -149,10 +129,6 @@ pub row-stops :
     → WholeRow l i seen j k
 unfolding free_of
 row-stops l i seen j k r stop = record { row = r; stop = stop }
-
-pub past-low : (k n p : ℕ) → Past k n p → k ≤ p
-past-low k n p past =
-    ⊎_elim (λ (last : n ≤ k). omega (arith, past.none last)) (λ (less : k < n). omega (arith, past.one less)) (le-or-lt n k)
 
 -- So many more are free.
 number-row :
@@ -291,16 +267,19 @@ module _ (l : List ℕ) (g : Grid) (all j : ℕ) (t₀ t : List ℕ) (n at met s
               (laying-next _ _ _ _ _ _ _ _ h.inv.laying h.less o opened final row-given t' r (rw end at laid));
         }
 
+    -- Slot k, if there is one, isn't granted.
     pub grid-next :
-        (r : ℕ) (t' : List ℕ) → Slotted t n at o (k * g.v) r t' → (p : ℕ) → Past k (length l) p
+        (r : ℕ) (t' : List ℕ) → Slotted t n at o (k * g.v) r t' → (p : ℕ) → p ≡ min (k + 1) (length l)
         → Gridding l g all j t₀ t' r (k * g.v) (k * g.v) (seen + (k - i)) p
     unfolding free_of
     grid-next r t' laid p past =
         ⊎_elim
-        (λ (last : length l ≤ k). rw (past.none last) (laid-row r t' laid))
+        (λ (last : length l ≤ k).
+        let same : p ≡ k = omega (arith, row_inside.1) in rw same (laid-row r t' laid))
         (λ (less : k < length l).
+        let one : p ≡ k + 1 = omega arith in
         let same : seen + 1 + (k - (i + 1)) ≡ seen + (k - i) = omega (arith, row_inside.0) in
-        rw (past.one less) (grid-skip _ _ _ _ _ _ _ _ _ _ _ (laid-row r t' laid) less (rw same at (h.whole.stop less))))
+        rw one (grid-skip _ _ _ _ _ _ _ _ _ _ _ (laid-row r t' laid) less (rw same at (h.whole.stop less))))
         (le-or-lt (length l) k)
 
 pub grid-end :

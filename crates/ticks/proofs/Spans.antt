@@ -1,14 +1,11 @@
 -- Laying out span after span: what a span does, and how far a buffer has come. Assumes nothing.
 use mathlib.Core.Path.{◌≡◌, refl, ◌∙◌}
-use mathlib.Core.Logic.{⊎_elim}
 use mathlib.Core.List.{List}
 use Prim.Native.Nat.{ℕ, ◌≤◌, ◌<◌}
-use native.Mathlib.Nat.{le_antisymm}
 use native.Mathlib.Omega.{arith}
 use lib.ListN.{length, take}
 use Rattle.rules.specs.Sums.{Subset, bit}
 use Rattle.rules.specs.Worst.{Wheel}
-use Rattle.rules.proofs.Sums.{le-or-lt}
 use Rattle.limits.specs.Limits.{most_ticks}
 use Rattle.runs.specs.Runs.{Lay, LaidIn, Turn}
 use Rattle.runs.proofs.Edges.{lay-none, lay-span}
@@ -23,30 +20,6 @@ span-turn l l' n from to step r room some t =
       none = λ end. absurd (omega arith);
       parity = λ _. t.parity;
       lay = λ u lay after. lay-span u to t lay (omega (arith, t.long, t.high)) (omega arith) after;
-    }
-
-pub span_none : (l : List ℕ) (n from to step : ℕ) → from ≤ to → to ≤ from → Span l n from to step n l
-span_none l n from to step order none =
-    let e : from ≡ to = le_antisymm order none in
-    record {
-      long = refl;
-      high = omega arith;
-      none = λ _. refl;
-      parity = λ some. absurd (omega arith);
-      lay = λ u lay _. rw e at lay;
-    }
-
--- A gap and a slot behind it.
-pub span-slot :
-    {l l' l'' : List ℕ} {n k r at from to : ℕ} → Span l n at from 0 k l' → Span l' k from to 1 r l'' → Slotted l n at from to r l''
-span-slot {n = n} {k = k} {r = r} {from = from} {to = to} gap run =
-    record {
-      long = run.long ∙ gap.long;
-      high = ⊎_elim
-          (λ (p : to ≤ from). omega (arith, gap.high, run.none p))
-          (λ (p : from < to). omega (arith, gap.high, run.high, run.parity p))
-          (le-or-lt to from);
-      lay = λ u lay out within. run.lay u (gap.lay u lay out) within;
     }
 
 -- The first n entries of l lay out u up to tick `at`, in a buffer that was l₀.

@@ -10,7 +10,6 @@
 --     free_of l                     the free slots of a mark buffer: those with mark 1
 --     GivenRow l i seen j k         from slot i to slot k, which isn't among them, all are free and among the first j, with `seen` before slot i
 --     WholeRow l i seen j k         the same, and slot k, if there is one, isn't granted
---     Past k n r                    r is past slot k of n slots, if there is one
 --     GridFits l g all runs         what laying a grant out is handed: a wheel within its bound, the number of free slots, room for two edges each
 use Rattle.std.specs.Prelude.{◌≡◌, true, false, cond, ◌&&◌, List, ℕ, zero, suc, ◌+◌, ◌-◌, ◌*◌, ◌/◌, ◌%◌, ◌≤◌, ◌<◌, ltb, eqb, length, get_or, take}
 use Rattle.rules.specs.Sums.{Subset, bit, number}
@@ -67,10 +66,6 @@ pub record GivenRow (l : List ℕ) (i seen j k : ℕ) : Type 0 where
 pub record WholeRow (l : List ℕ) (i seen j k : ℕ) : Type 0 where
   pub row : GivenRow l i seen j k
   pub stop : k < length l → (free_of l k && ltb (seen + (k - i)) j) ≡ false
-
-pub record Past (k n r : ℕ) : Type 0 where
-  pub one : k < n → r ≡ k + 1
-  pub none : n ≤ k → r ≡ k
 
 pub record GridFits (l : List ℕ) (g : Grid) (all : ℕ) (runs : List ℕ) : Type 0 where
   pub some : 0 < length l * g.v

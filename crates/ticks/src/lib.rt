@@ -8,7 +8,7 @@ ghost use Rattle.rules.specs.Grant.{first, grid_ticks};
 ghost use Rattle.limits.specs.Limits.{most_ticks};
 ghost use Rattle.records.specs.Records.{slot_bytes, board};
 ghost use Rattle.runs.specs.Runs.{LaidIn};
-ghost use Rattle.ticks.specs.Ticks.{Span, Slotted, met_first, opens_at, Fits, free_of, WholeRow, Past, GridFits};
+ghost use Rattle.ticks.specs.Ticks.{Span, Slotted, met_first, opens_at, Fits, free_of, WholeRow, GridFits};
 
 use limits::Grid;
 
@@ -18,26 +18,56 @@ fn span(runs: &mut [u16], n: usize, from: usize, to: usize, step: usize) -> usiz
     ensures { Span runs.old n from to step result runs.new }
 {
     if from < to {
-        return runs::turn(runs, n, from, step);
+        runs::turn(runs, n, from, step)
+    } else {
+        n
     }
-    n
-}
-
-// The ticks from `at` to `from` are out of the set, those from there to `to` are in it: a slot, from its first tick that isn't lost.
-fn slot(runs: &mut [u16], n: usize, at: usize, from: usize, to: usize) -> usize
-    requires { (n + 1 < length runs.old) × (at ≤ from) × (from ≤ to) × (to ≤ most_ticks) }
-    ensures { Slotted runs.old n at from to result runs.new }
-{
-    let k = span(runs, n, at, from, 0);
-    span(runs, k, from, to, 1)
 }
 
 // The first tick of a slot that isn't lost. Where an own slot ends at its start, the processor doesn't change hands.
+#[tactic(auto, unfolding(crate::specs::Ticks::opens_at))]
 fn opens(start: usize, loss: usize, met: usize) -> usize
     requires { start + loss ≤ most_ticks }
     ensures { result ≡ opens_at start loss met }
 {
     if start == met { start } else { start + loss }
+}
+
+// How far laying out has come.
+#[derive(Clone, Copy)]
+struct Reach {
+    // The edges so far.
+    n: usize,
+    // The tick up to which they lay out.
+    at: usize,
+    // Where the next slot is met.
+    met: usize,
+}
+
+impl Reach {
+    // Nothing is laid out yet.
+    fn start(met: usize) -> Reach
+        ensures { result ≡ record { n = 0; at = 0; met = met } }
+    {
+        Reach { n: 0, at: 0, met }
+    }
+
+    // A slot more, from its first tick that isn't lost: the ticks before that are out of the set. The next slot is met where this one ends.
+    fn slot(self, runs: &mut [u16], start: usize, loss: usize, end: usize) -> Reach
+        requires short { start + loss ≤ most_ticks }
+        requires room { self.n + 1 < length runs.old }
+        requires order { (self.at ≤ opens_at start loss self.met) × (opens_at start loss self.met ≤ end) × (end ≤ most_ticks) }
+        ensures laid { Slotted runs.old self.n self.at (opens_at start loss self.met) end result.n runs.new }
+        ensures come { (result.at ≡ end) × (result.met ≡ end) }
+    {
+        let from = opens(start, loss, self.met);
+        let n = span(runs, self.n, self.at, from, 0);
+        Reach {
+            n: span(runs, n, from, end, 1),
+            at: end,
+            met: end,
+        }
+    }
 }
 
 // Where the board's first slot is met as the wheel turns: by its last one, if that is the owner's and ends with the wheel. No slot starts at w.
@@ -49,12 +79,11 @@ fn met_first(slots: &[u8], first: usize, count: usize, owner: usize, w: usize) -
         return w;
     }
     let last = records::board::slot_at(slots, first, count - 1);
-    if last.owner == owner {
-        if last.end == w {
-            return 0;
-        }
+    if last.owner == owner && last.end == w {
+        0
+    } else {
+        w
     }
-    w
 }
 
 // The usable ticks of the owner's slots on a board as runs. Slots that touch join; another owner's slot is passed by.
@@ -69,34 +98,28 @@ pub fn table(
     requires { Fits slots.now first count w runs.old }
     ensures { LaidIn runs.old runs.new result w (usable w (board slots.now first count owner)) }
 {
-    let mut n = 0;
-    let mut at = 0;
-    let mut met = met_first(slots, first, count, owner, w);
-    let mut i = 0;
-    while i < count {
+    let mut reach = Reach::start(met_first(slots, first, count, owner, w));
+    for i in 0..count {
         let s = records::board::slot_at(slots, first, i);
         if s.owner == owner {
-            n = slot(runs, n, at, opens(s.start, s.loss, met), s.end);
-            at = s.end;
-            met = s.end;
+            reach = reach.slot(runs, s.start, s.loss, s.end);
         }
-        i += 1;
     }
-    span(runs, n, at, w, 0)
+    span(runs, reach.n, reach.at, w, 0)
 }
 
-// 1 for a free mark, 0 for any other.
-pub fn free(mark: u8) -> usize
-    ensures { result ≡ bit (eqb mark 1) }
+// Whether a mark is free.
+pub fn free(mark: u8) -> bool
+    ensures { result ≡ eqb mark 1 }
 {
-    if mark == 1 { 1 } else { 0 }
+    mark == 1
 }
 
 // Whether a mark is free and has fewer than j free ones before it.
 fn given(mark: u8, seen: usize, j: usize) -> bool
     ensures { result ≡ (eqb mark 1 && ltb seen j) }
 {
-    mark == 1 && seen < j
+    free(mark) && seen < j
 }
 
 // Where a grant's first slot is met as the wheel turns: by its last one, if that is granted, too. It is where all free ones are and it is free.
@@ -106,12 +129,11 @@ fn met_granted(marks: &[u8], g: Grid, all: usize, j: usize) -> usize
     ensures { result ≡ met_first (length marks.now * g.v) (grid (length marks.now) g.v g.loss (first (free_of marks.now) j)) (length marks.now) }
 {
     let w = marks.len() * g.v;
-    if marks[marks.len() - 1] == 1 {
-        if all <= j {
-            return 0;
-        }
+    if free(marks[marks.len() - 1]) && all <= j {
+        0
+    } else {
+        w
     }
-    w
 }
 
 // The end of the slots that are granted one behind the other from slot i on, `seen` before them.
@@ -119,23 +141,12 @@ fn row(marks: &[u8], i: usize, seen: usize, j: usize) -> usize
     requires { (i ≤ length marks.now) × (seen ≤ i) }
     ensures { WholeRow marks.now i seen j result }
 {
-    let mut k = i;
-    while k < marks.len() {
-        if given(marks[k], seen + (k - i), j) {
-            k += 1;
-        } else {
+    for k in i..marks.len() {
+        if !given(marks[k], seen + (k - i), j) {
             return k;
         }
     }
-    k
-}
-
-// Past slot k, if there is one: behind a row of granted slots it isn't granted.
-fn past(k: usize, n: usize) -> usize
-    requires { k ≤ n }
-    ensures { Past k n result }
-{
-    if k < n { k + 1 } else { k }
+    marks.len()
 }
 
 // The ticks of a grant of the first j free slots, of `all` that are free, as runs. Granted slots that stand one behind the other are laid out as one.
@@ -143,23 +154,20 @@ pub fn grid(marks: &[u8], g: Grid, all: usize, j: usize, runs: &mut [u16]) -> us
     requires { GridFits marks.now g all runs.old }
     ensures { LaidIn runs.old runs.new result (length marks.now * g.v) (grid_ticks (length marks.now) g.v g.loss (first (free_of marks.now) j)) }
 {
-    let mut n = 0;
-    let mut at = 0;
-    let mut met = met_granted(marks, g, all, j);
+    let mut reach = Reach::start(met_granted(marks, g, all, j));
     let mut seen = 0;
     let mut i = 0;
+    // Row by row, which no `for` goes: slot by slot it takes longer (docs/DECISIONS.md).
     while i < marks.len() {
         if given(marks[i], seen, j) {
             let k = row(marks, i + 1, seen + 1, j);
-            let end = k * g.v;
-            n = slot(runs, n, at, opens(i * g.v, g.loss, met), end);
-            at = end;
-            met = end;
+            reach = reach.slot(runs, i * g.v, g.loss, k * g.v);
             seen += k - i;
-            i = past(k, marks.len());
+            // Behind the row the slot isn't granted, if there is one.
+            i = (k + 1).min(marks.len());
         } else {
             i += 1;
         }
     }
-    span(runs, n, at, marks.len() * g.v, 0)
+    span(runs, reach.n, reach.at, marks.len() * g.v, 0)
 }

@@ -1,79 +1,81 @@
 -- The walk along the records: what one turn adds, and what it leaves as it was. Assumes nothing.
 use mathlib.Core.Path.{◌≡◌, refl, sym, ap, ◌∙◌}
-use mathlib.Core.List.{List}
+use mathlib.Core.List.{List, ◌++◌}
 use Prim.Native.Nat.{ℕ, ◌+◌, ◌-◌, ◌*◌, ◌≤◌, ◌<◌}
 use native.Mathlib.Nat.{le_antisymm}
 use native.Mathlib.Omega.{arith}
 use borrow.Author.Count.{below_more}
-use lib.ListN.{length, take, drop}
-use lib.Seq.{drop-drop}
+use lib.ListN.{length, take, drop, length-drop}
+use lib.Seq.{take_at, drop_at, drop-drop}
 use Rattle.octets.specs.Octets.{le4}
 use Rattle.limits.specs.Limits.{most_ticks}
 use Rattle.records.specs.Records.{task_bytes, reply_bytes, task_record, whole, part}
-use Rattle.records.specs.Refusals.{sizes, job_of, checked}
+use Rattle.records.specs.Refusals.{sizes, job_of}
 use Rattle.records.specs.declared.TaskRecord.{TaskRecord}
 use Rattle.records.specs.declared.Job.{Job}
-use Rattle.records.specs.declared.Checked.TheVariants.{Accepted}
 use Rattle.records.proofs.Parts.{sizes-good}
-use Rattle.records.proofs.Accepts.{good-accepted}
-use Rattle.records.proofs.Checks.{checked-accepted}
-use Rattle.room.specs.Room.{most_edges, Lends}
 use Rattle.judge.specs.Judge.{Judged}
 use Rattle.walk.specs.Walk.{place, JudgedAt, Roomy, Fitting, Placed, Walked}
-use Rattle.walk.proofs.Places.{part-long, part-before, part-le4, put, put-long, put-there, put-before, put-behind}
-
--- ---- what is lent
-
--- Arrays for every wheel that the record may be accepted with serve the accepted one.
-pub lent-accepted :
-    (slots : List ℕ) (r s : TaskRecord) (j : Job) {late map low spare here there : List ℕ} → r ≡ s → checked r slots ≡ Accepted j
-    → (s.w ≤ most_ticks → Lends s.w late map low spare here there) → Lends j.wheel.w late map low spare here there
-lent-accepted slots r s j e a lent =
-    let ours : j ≡ job_of s = (checked-accepted r slots j a).1 ∙ ap job_of e in
-    let most : j.wheel.w ≤ most_ticks = (good-accepted r slots j a).most in
-    rw ours (lent (rw ours at most))
+use Rattle.walk.proofs.Places.{part-long, part-before, put, put-long, put-there, put-before, put-behind}
 
 -- ---- the largest wheel
 
--- The first i records need no more than n ticks.
-pub record Seen (tasks : List ℕ) (i n : ℕ) : Type 0 where
-  pub upto : i ≤ whole tasks
+-- The first i records need no more than n ticks, and the rest are still to be looked at.
+pub record Seen (tasks : List ℕ) (i n : ℕ) (rest : List ℕ) (size : ℕ) : Type 0 where
+  pub left : rest ≡ drop (task_bytes * i) tasks
+  pub long : size ≡ task_bytes
   pub most : n ≤ most_ticks
   pub each : (j : ℕ) → j < i → (task_record (part tasks j)).w ≤ most_ticks → (task_record (part tasks j)).w ≤ n
 
-pub seen_none : (tasks : List ℕ) → Seen tasks 0 0
-seen_none tasks = record { upto = omega arith; most = omega arith; each = λ j less. absurd (omega arith) }
+pub seen_none : (tasks rest : List ℕ) (size : ℕ) → rest ≡ tasks → size ≡ task_bytes → Seen tasks 0 0 rest size
+seen_none tasks rest size e long = record { left = e; long = long; most = omega arith; each = λ j less. absurd (omega arith) }
 
+-- The next record comes off the rest.
 pub seen_more :
-    (tasks : List ℕ) (i n w r : ℕ) → Seen tasks i n → i < whole tasks → w ≡ le4 tasks (task_bytes * i + 4)
-    → (n ≤ r) × (r ≤ most_ticks) × (w ≤ most_ticks → w ≤ r) → Seen tasks (i + 1) r
+    (tasks : List ℕ) (i n i' r w : ℕ) (rest rest' task : List ℕ) (size size' : ℕ) → Seen tasks i n rest size → i' ≡ i + 1 → size' ≡ size
+    → (rest ≡ task ++ rest') × (length task ≡ size) → w ≡ le4 task 4
+    → (n ≤ r) × (r ≤ most_ticks) × (w ≤ most_ticks → w ≤ r) → Seen tasks i' r rest' size'
 unfolding part
-seen_more tasks i n w r s less read larger =
-    let wheel : w ≡ (task_record (part tasks i)).w = read ∙ sym (part-le4 (task_bytes * i) task_bytes 4 tasks (omega arith)) in
-    record {
-      upto = omega arith;
+seen_more tasks i n i' r w rest rest' task size size' s next same (cut, whole) read larger =
+    let long : length task ≡ task_bytes = whole ∙ s.long in
+    let here : drop (task_bytes * i) tasks ≡ task ++ rest' = sym s.left ∙ cut in
+    let record_i : take task_bytes (drop (task_bytes * i) tasks) ≡ task = ap (take task_bytes) here ∙ take_at task rest' task_bytes long in
+    let wheel : w ≡ (task_record (part tasks i)).w = read ∙ ap (λ t. le4 t 4) (sym record_i) in
+    let on : task_bytes * (i + 1) ≡ task_bytes * i + task_bytes = omega arith in
+    rw next (record {
+      left =
+          sym (drop_at task rest' task_bytes long) ∙ ap (drop task_bytes) (sym here)
+          ∙ drop-drop task_bytes (task_bytes * i) tasks ∙ ap (λ m. drop m tasks) (sym on);
+      long = same ∙ s.long;
       most = larger.1;
       each =
           below_more _ i
           (λ j l fits. let x = s.each j l fits in omega arith)
           (λ fits. rw wheel at (larger.2 (rw wheel fits)));
-    }
+    })
 
-pub seen_all : (tasks : List ℕ) (i n : ℕ) → Seen tasks i n → whole tasks ≤ i → Fitting tasks n × (n ≤ most_ticks)
+pub seen_all :
+    (tasks : List ℕ) (i n : ℕ) (rest : List ℕ) (size : ℕ) → Seen tasks i n rest size → length rest < size
+    → Fitting tasks n × (n ≤ most_ticks)
 unfolding Fitting
-seen_all tasks i n s all = (λ j less. s.each j (omega arith), s.most)
+seen_all tasks i n rest size s short =
+    let last : length (drop (task_bytes * i) tasks) < task_bytes = rw s.left at (rw s.long at short) in
+    (λ j less. s.each j (omega (arith, length-drop (task_bytes * i) tasks)), s.most)
 
 pub fitting-more : (tasks : List ℕ) (n m : ℕ) → Fitting tasks n → n ≤ m → Fitting tasks m
 unfolding Fitting
 fitting-more tasks n m fitting more = λ i less fits. let x = fitting i less fits in omega arith
 
--- Arrays for the largest wheel serve every record.
-pub lends_one :
-    (tasks late map low spare here there : List ℕ) (i n : ℕ) → i < whole tasks → Fitting tasks n
-    → Lends n late map low spare here there
-    → (task_record (part tasks i)).w ≤ most_ticks → Lends (task_record (part tasks i)).w late map low spare here there
+-- The wheel of an accepted job is its record's.
+pub fits_job :
+    (r : TaskRecord) (j : Job) (n : ℕ) → j ≡ job_of r → j.wheel.w ≤ most_ticks → (r.w ≤ most_ticks → r.w ≤ n) → j.wheel.w ≤ n
+fits_job r j n same most fits = rw same (fits (rw same at most))
+
+pub fits_one :
+    (tasks : List ℕ) (i n : ℕ) → i < whole tasks → Fitting tasks n → (task_record (part tasks i)).w ≤ most_ticks
+    → (task_record (part tasks i)).w ≤ n
 unfolding Fitting
-lends_one tasks late map low spare here there i n less fitting lends fits = let x = fitting i less fits in omega arith
+fits_one tasks i n less fitting = fitting i less
 
 -- ---- one record
 
@@ -124,32 +126,8 @@ placed_one tasks slots reply answer i n less room judged kept =
 
 -- ---- all of them
 
--- The lent arrays are as long as they came.
-pub record Kept (r l m o s h t runs late map low spare here there : List ℕ) : Type 0 where
-  pub runs-long : length runs ≡ length r
-  pub late-long : length late ≡ length l
-  pub map-long : length map ≡ length m
-  pub low-long : length low ≡ length o
-  pub spare-long : length spare ≡ length s
-  pub here-long : length here ≡ length h
-  pub there-long : length there ≡ length t
-
--- What one turn asks of them is what the walk asks.
-pub kept-lends :
-    (tasks r l m o s h t runs late map low spare here there : List ℕ)
-    → Kept r l m o s h t runs late map low spare here there
-    → Fitting tasks (length m) → (length r ≡ most_edges) × Lends (length m) l m o s h t
-    → Fitting tasks (length map) × ((length runs ≡ most_edges) × Lends (length map) late map low spare here there)
-kept-lends tasks r l m o s h t runs late map low spare here there k fitting lends =
-    (rw k.map-long fitting, (omega arith, omega arith))
-
 pub walked_none : (tasks slots reply : List ℕ) → Walked tasks slots reply 0 reply
 walked_none tasks slots reply = record { long = refl; each = λ j less. absurd (omega arith); behind = refl }
-
-pub walked-roomy :
-    (tasks slots reply after : List ℕ) (i : ℕ) → Roomy tasks slots reply → Walked tasks slots reply i after
-    → Roomy tasks slots after
-walked-roomy tasks slots reply after i roomy w = record { table = roomy.table; room = omega arith }
 
 -- A record is judged alike on equal places.
 judged-same :

@@ -1,71 +1,72 @@
 // Judging one record in arrays that the caller lends in any state: for many records one after another.
 ghost use Rattle.std.specs.Prelude.{◌≡◌, ◌≤◌, length};
 ghost use Rattle.limits.specs.Limits.{most_ticks};
+ghost use Rattle.limits.specs.Refusal.{refusal};
 ghost use Rattle.records.specs.Records.{reply_bytes, task_record};
-ghost use Rattle.records.specs.Refusals.{sizes};
-ghost use Rattle.records.specs.Jobs.{Good};
-ghost use Rattle.room.specs.Room.{most_edges, Lends};
-ghost use Rattle.judge.specs.Judge.{Judged};
+ghost use Rattle.records.specs.Refusals.{sizes, body_refusal};
+ghost use Rattle.judge.specs.Judge.{Outcome, Judged};
 ghost use Rattle.jobs.specs.Lent.{Peaked};
 
-use records::{Checked, Job};
-use room::Peak;
+use crate::arrays::Arrays;
+use jobs::Accepted;
+use limits::Refusal;
+use records::TaskRecord;
+use records::answer::Found;
+use room::{MOST_EDGES, Peak};
+use runs::Ticks;
 
 // The worst count and offset of an accepted job, and its least margin.
-fn worst_in(
-    slots: &[u8],
-    job: Job,
-    runs: &mut [u16],
-    late: &mut [u16],
-    map: &mut [u8],
-    low: &mut [u8],
-    spare: &mut [u8],
-    here: &mut [u16],
-    there: &mut [u16],
+fn worst_in<const N: usize>(
+    accepted: Accepted,
+    runs: &mut [u16; MOST_EDGES],
+    arrays: &mut Arrays<N>,
 ) -> Peak
-    requires good { Good slots.now job × (length runs.old ≡ most_edges) }
-    requires lends { Lends job.wheel.w late.old map.old low.old spare.old here.old there.old }
-    ensures { Peaked slots.now job result }
+    requires { accepted.job.wheel.w ≤ N }
+    ensures { Peaked accepted.entry.slots.now accepted.entry.job result }
 {
-    let wheel = job.wheel;
-    let n = jobs::laid::lay(slots, job, runs);
-    room::worst_in(
-        &runs[..n],
-        wheel.w,
-        job.task,
+    let n = jobs::laid::lay(accepted, runs);
+    let laid = Ticks {
+        edges: &runs[..n],
+        w: accepted.job.wheel.w,
+    };
+    let Arrays {
         late,
         map,
         low,
         spare,
         here,
         there,
-    )
+    } = arrays;
+    room::worst_in(laid, accepted.job.task, late, map, low, spare, here, there)
+}
+
+// What is found for a task record, or the first refusal that applies.
+fn outcome<const N: usize>(
+    r: TaskRecord,
+    slots: &[u8],
+    runs: &mut [u16; MOST_EDGES],
+    arrays: &mut Arrays<N>,
+) -> Result<Found, Refusal>
+    requires { r.w ≤ most_ticks → r.w ≤ N }
+    ensures { Outcome r slots.now (body_refusal r slots.now) result }
+{
+    let job = records::check(r, slots)?;
+    let accepted = Accepted { slots, job };
+    Ok(judge::found(job.task, worst_in(accepted, runs, arrays)))
 }
 
 // Judges a whole record into room for its answer.
-pub fn judge_in(
+pub fn judge_in<const N: usize>(
     task: &[u8],
     slots: &[u8],
     reply: &mut [u8],
-    runs: &mut [u16],
-    late: &mut [u16],
-    map: &mut [u8],
-    low: &mut [u8],
-    spare: &mut [u8],
-    here: &mut [u16],
-    there: &mut [u16],
-) -> u32
-    requires sizes { (sizes task.now slots.now ≡ 0) × (reply_bytes ≤ length reply.old) × (length runs.old ≡ most_edges) }
-    requires lends { (task_record task.now).w ≤ most_ticks → Lends (task_record task.now).w late.old map.old low.old spare.old here.old there.old }
-    ensures { Judged task.now slots.now reply.old result reply.new }
+    runs: &mut [u16; MOST_EDGES],
+    arrays: &mut Arrays<N>,
+) -> Result<(), Refusal>
+    requires sizes { (sizes task.now slots.now ≡ 0) × (reply_bytes ≤ length reply.old) }
+    requires fits { (task_record task.now).w ≤ most_ticks → (task_record task.now).w ≤ N }
+    ensures { Judged task.now slots.now reply.old (refusal result) reply.new }
 {
     let r = records::read(task);
-    match records::check(r, slots) {
-        Checked::Refused(bad) => judge::refuse(reply, r.id, bad),
-        Checked::Accepted(job) => {
-            let p = worst_in(slots, job, runs, late, map, low, spare, here, there);
-            judge::answer(reply, r.id, job.task, p);
-            0
-        }
-    }
+    judge::answer(reply, r.id, outcome(r, slots, runs, arrays))
 }

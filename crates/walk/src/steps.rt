@@ -1,102 +1,62 @@
 // The steps of the walk, in arrays that are lent from record to record.
-ghost use Rattle.std.specs.Prelude.{◌≡◌, ◌≤◌, ◌<◌, length};
+ghost use Rattle.std.specs.Prelude.{◌≤◌, ◌<◌};
 ghost use Rattle.limits.specs.Limits.{most_ticks};
 ghost use Rattle.records.specs.Records.{whole};
-ghost use Rattle.room.specs.Room.{most_edges, Lends};
 ghost use Rattle.walk.specs.Walk.{Roomy, Fitting, Placed, Walked};
 
+use crate::arrays::Arrays;
 use crate::lent;
 use limits::Wheel;
 use records::TaskRecord;
 use records::answer::Answer;
-
-// The larger of a wheel so far and one more, if a task may have that.
-fn larger(n: usize, w: usize) -> usize
-    requires { n ≤ most_ticks }
-    ensures { (n ≤ result) × (result ≤ most_ticks) × (w ≤ most_ticks → w ≤ result) }
-{
-    if w <= n {
-        return n;
-    }
-    if Wheel::MOST_TICKS < w {
-        return n;
-    }
-    w
-}
+use room::MOST_EDGES;
 
 // The largest wheel that a record of the site may be accepted with.
 pub fn largest(tasks: &[u8]) -> usize
     ensures { Fitting tasks.now result × (result ≤ most_ticks) }
 {
-    let n = tasks.len() / TaskRecord::BYTES;
-    let mut most = 0;
-    let mut i = 0;
-    while i < n {
-        most = larger(most, octets::four(tasks, TaskRecord::BYTES * i + 4));
-        i += 1;
+    let mut most: usize = 0;
+    for task in tasks.chunks_exact(TaskRecord::BYTES) {
+        let w = octets::four(task, 4);
+        if w <= Wheel::MOST_TICKS {
+            most = most.max(w);
+        }
     }
     most
 }
 
 // Judges record i into its own place, through the part of the reply that starts there.
-fn one(
+fn one<const N: usize>(
     tasks: &[u8],
     slots: &[u8],
     i: usize,
     reply: &mut [u8],
-    runs: &mut [u16],
-    late: &mut [u16],
-    map: &mut [u8],
-    low: &mut [u8],
-    spare: &mut [u8],
-    here: &mut [u16],
-    there: &mut [u16],
+    runs: &mut [u16; MOST_EDGES],
+    arrays: &mut Arrays<N>,
 )
-    requires placed { (i < whole tasks.now) × Roomy tasks.now slots.now reply.old × Fitting tasks.now (length map.old) }
-    requires lends { (length runs.old ≡ most_edges) × Lends (length map.old) late.old map.old low.old spare.old here.old there.old }
+    requires { (i < whole tasks.now) × Roomy tasks.now slots.now reply.old × Fitting tasks.now N }
     ensures { Placed tasks.now slots.now reply.old i reply.new }
 {
     let from = TaskRecord::BYTES * i;
     let to = from + TaskRecord::BYTES;
     let at = Answer::BYTES * i;
     let end = at + Answer::BYTES;
-    lent::judge_in(
-        &tasks[from..to],
-        slots,
-        &mut reply[at..end],
-        runs,
-        late,
-        map,
-        low,
-        spare,
-        here,
-        there,
-    );
+    // A refusal stands in the record's answer.
+    let _ = lent::judge_in(&tasks[from..to], slots, &mut reply[at..end], runs, arrays);
 }
 
-// Judges all records, one after another.
-pub fn each(
+// Judges all records, one after another. By index: of what chunks_exact_mut leaves in the reply a proof knows nothing.
+pub fn each<const N: usize>(
     tasks: &[u8],
     slots: &[u8],
     reply: &mut [u8],
-    runs: &mut [u16],
-    late: &mut [u16],
-    map: &mut [u8],
-    low: &mut [u8],
-    spare: &mut [u8],
-    here: &mut [u16],
-    there: &mut [u16],
+    runs: &mut [u16; MOST_EDGES],
+    arrays: &mut Arrays<N>,
 )
-    requires roomy { Roomy tasks.now slots.now reply.old × Fitting tasks.now (length map.old) }
-    requires lends { (length runs.old ≡ most_edges) × Lends (length map.old) late.old map.old low.old spare.old here.old there.old }
+    requires { Roomy tasks.now slots.now reply.old × Fitting tasks.now N }
     ensures { Walked tasks.now slots.now reply.old (whole tasks.now) reply.new }
 {
-    let n = tasks.len() / TaskRecord::BYTES;
-    let mut i = 0;
-    while i < n {
-        one(
-            tasks, slots, i, reply, runs, late, map, low, spare, here, there,
-        );
-        i += 1;
+    for i in 0..tasks.len() / TaskRecord::BYTES {
+        one(tasks, slots, i, reply, runs, arrays);
     }
 }

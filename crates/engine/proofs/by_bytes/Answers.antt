@@ -5,7 +5,7 @@ use Rattle.engine.proofs.Crests.{crest-of, crest-one}
 use Rattle.engine.proofs.by_bytes.Goals as goal
 
 pub returns-then-k-eq1 : goal.returns-then-k-eq1
-returns-then-k-eq1 c = crest-one _ _ c.if-k-eq1.true c.requires.0.some c.of_bytes.ensures
+returns-then-k-eq1 c = crest-one _ _ c.if-k-eq1.true c.requires.0.some c.of.ensures
 
 pub returns : goal.returns
-returns c = crest-of _ c.bytes.ensures (take_at _ _ _ c.bytes.ensures.as_long) c.of_bytes-2.ensures
+returns c = crest-of _ c.bytes.ensures (take_at _ _ _ c.bytes.ensures.as_long) c.of-2.ensures

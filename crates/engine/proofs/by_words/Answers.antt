@@ -4,4 +4,4 @@ use Rattle.engine.proofs.Crests.{crest-of}
 use Rattle.engine.proofs.by_words.Goals as goal
 
 pub returns : goal.returns
-returns c = crest-of _ c.words.ensures (take_at _ _ _ c.words.ensures.as_long) c.of_words.ensures
+returns c = crest-of _ c.words.ensures (take_at _ _ _ c.words.ensures.as_long) c.of.ensures

@@ -1,34 +1,30 @@
--- `judge::judge` meets its contract: one law for each way out (proofs/Replies.antt). Assumes nothing.
-use Rattle.std.proofs.Common.{sym, ◌∙◌, arith}
+-- One law for each way out (proofs/Replies.antt). Assumes nothing.
+use Rattle.std.proofs.lemmas.Result.{err_from_is_err_and}
+use Rattle.records.specs.Refusals.{room}
 use Rattle.records.proofs.Parts.{sizes-long}
-use Rattle.records.proofs.Accepts.{good-accepted}
-use Rattle.judge.proofs.Replies.{reply-sizes, reply-room, reply-refused, reply-answered}
+use Rattle.judge.proofs.Replies.{judged-sizes, judged-room, judged-as, room-long}
 use Rattle.judge.proofs.judge.Goals as goal
 
-pub returns-then-n-ne0 : goal.returns-then-n-ne0
-returns-then-n-ne0 c = reply-sizes _ _ _ _ c.sizes-n.ensures c.if-n-ne0.true
+pub returns-in_err-sizes : goal.returns-in_err-sizes
+returns-in_err-sizes c =
+    let p = err_from_is_err_and c.from_residual.result c.from_residual.ensures.1 in
+    rw (p.1, p.2) (judged-sizes _ _ _ _ c.in_err-sizes.ensures)
 
-pub returns-then-reply-lt-BYTES : goal.returns-then-reply-lt-BYTES
-returns-then-reply-lt-BYTES c =
-    reply-room _ _ _ (sym c.sizes-n.ensures ∙ c.if-n-ne0.false) (omega (arith, c.if-reply-lt-BYTES.true))
+pub returns-in_err-when : goal.returns-in_err-when
+unfolding room
+returns-in_err-when c =
+    let p = err_from_is_err_and c.from_residual-in_err-when.result c.from_residual-in_err-when.ensures.1 in
+    rw (p.1, p.2) (judged-room _ _ _ c.in_ok-sizes.ensures.0 _ c.in_err-when.ensures)
 
 pub read-r-requires : goal.read-r-requires
-read-r-requires c = sizes-long _ _ (sym c.sizes-n.ensures ∙ c.if-n-ne0.false)
-
-pub worst-p-requires : goal.worst-p-requires
-worst-p-requires c = good-accepted _ _ _ (sym c.in-Accepted.ensures)
+read-r-requires c = sizes-long _ _ c.in_ok-sizes.ensures.0
 
 pub answer-requires : goal.answer-requires
-answer-requires c = (omega (arith, c.if-reply-lt-BYTES.false), (good-accepted _ _ _ (sym c.in-Accepted.ensures)).within.painted)
+unfolding room
+answer-requires c = room-long _ c.in_ok-when.ensures.0
 
-pub returns-in-Refused : goal.returns-in-Refused
-returns-in-Refused c =
-    let good = sym c.sizes-n.ensures ∙ c.if-n-ne0.false in
-    rw c.refuse.ensures.0 (reply-refused _ _ _ good (omega (arith, c.if-reply-lt-BYTES.false)) _ c.read-r.ensures _ _
-    (sym c.in-Refused.ensures) c.refuse.ensures.1)
-
-pub returns-in-Accepted : goal.returns-in-Accepted
-returns-in-Accepted c =
-    let good = sym c.sizes-n.ensures ∙ c.if-n-ne0.false in
-    reply-answered _ _ _ good (omega (arith, c.if-reply-lt-BYTES.false)) _ c.read-r.ensures _ (sym c.in-Accepted.ensures) _ _ _ _
-    c.worst-p.ensures c.answer.ensures
+pub returns : goal.returns
+unfolding room
+returns c =
+    judged-as _ _ _ c.in_ok-sizes.ensures.0 _ _ _ _ c.in_ok-when.ensures.0 c.read-r.ensures c.outcome.ensures c.answer.ensures.0
+    c.answer.ensures.1

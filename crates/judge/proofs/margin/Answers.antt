@@ -1,17 +1,21 @@
--- `judge::margin` meets its contract: what the gate lets in is asked, what it shuts out gives nothing (proofs/Gates.antt).
--- Assumes nothing.
-use Rattle.std.proofs.Common.{FitsSigned, w32, rules}
+-- What the gate lets in is asked, and the reply is what it answers (proofs/Gates.antt). Assumes nothing.
+use Rattle.std.proofs.Common.{Ok, Err, FitsSigned, w32, rules}
 use Rattle.std.proofs.lemmas.Int.{to_z-of_z}
-use Rattle.judge.proofs.Gates.{enter-asked, enter-margin, shut-margin}
+use Rattle.std.proofs.lemmas.Result.{err_from_is_err_and}
+use Rattle.judge.proofs.Gates.{enter-asked, measured}
 use Rattle.judge.proofs.margin.Goals as goal
 
+pub returns-in_err-enter : goal.returns-in_err-enter
+returns-in_err-enter c =
+    let p = err_from_is_err_and c.from_residual.result c.from_residual.ensures.1 in
+    rw (p.1, p.2) (measured _ _ _ (Err _) c.in_err-enter.ensures)
+
 pub margin-requires : goal.margin-requires
-margin-requires c = enter-asked _ _ _ c.enter.ensures c.in-Open.is
+margin-requires c = enter-asked _ _ _ _ c.in_ok-enter.ensures.0 c.in_ok-enter.ensures.1
 
-pub returns-in-Shut : goal.returns-in-Shut
-returns-in-Shut c = shut-margin _ _ _ c.enter.ensures c.in-Shut.is
-
-pub returns-in-Open : goal.returns-in-Open
-returns-in-Open c =
+pub returns : goal.returns
+returns c =
+    let got = c.in_ok-enter.ensures in
     let fits : FitsSigned w32 c.margin.result = search rules in
-    rw (to_z-of_z w32 c.margin.result fits) (enter-margin _ _ _ c.enter.ensures c.in-Open.is _ c.margin.ensures)
+    rw (to_z-of_z w32 c.margin.result fits)
+    (measured _ _ _ (Ok _) (got.0, rw (got.1, got.2) at c.margin.ensures))

@@ -1,13 +1,18 @@
--- `judge::supply` meets its contract: what the gate lets in is asked, what it shuts out gives nothing (proofs/Gates.antt).
--- Assumes nothing.
-use Rattle.judge.proofs.Gates.{enter-asked, enter-supply, shut-supply}
+-- What the gate lets in is asked, and the reply is what it answers (proofs/Gates.antt). Assumes nothing.
+use Rattle.std.proofs.Common.{Ok, Err}
+use Rattle.std.proofs.lemmas.Result.{err_from_is_err_and}
+use Rattle.judge.proofs.Gates.{enter-asked, supplied}
 use Rattle.judge.proofs.supply.Goals as goal
 
-pub supply-found-requires : goal.supply-found-requires
-supply-found-requires c = enter-asked _ _ _ c.enter.ensures c.in-Open.is
+pub returns-in_err-enter : goal.returns-in_err-enter
+returns-in_err-enter c =
+    let p = err_from_is_err_and c.from_residual.result c.from_residual.ensures.1 in
+    rw (p.1, p.2) (supplied _ _ _ (Err _) c.in_err-enter.ensures)
 
-pub returns-in-Shut : goal.returns-in-Shut
-returns-in-Shut c = shut-supply _ _ _ c.enter.ensures c.in-Shut.is
+pub supply-requires : goal.supply-requires
+supply-requires c = enter-asked _ _ _ _ c.in_ok-enter.ensures.0 c.in_ok-enter.ensures.1
 
-pub returns-in-Open : goal.returns-in-Open
-returns-in-Open c = enter-supply _ _ _ c.enter.ensures c.in-Open.is _ c.supply-found.ensures.0
+pub returns : goal.returns
+returns c =
+    let got = c.in_ok-enter.ensures in
+    supplied _ _ _ (Ok _) (got.0, rw (got.1, got.2) at c.supply.ensures.0)

@@ -1,17 +1,15 @@
--- While the end of run i is below x, run i is one of the list's.
-use Rattle.std.proofs.Common.{suc, arith, le_refl}
-use Rattle.late.proofs.Cursors.{edge-first, cursor-inside}
+-- The first edge that isn't below x ends the run that x lies in (proofs/Cursors.antt).
+use Rattle.std.proofs.Common.{suc, length, arith}
+use Rattle.runs.proofs.Edges.{edge-read, edge-past}
+use Rattle.late.proofs.Cursors.{cursor-found}
 use Rattle.late.proofs.find.Goals as goal
 
-pub loop-i-init : goal.loop-i-init
-loop-i-init c = omega (arith, edge-first c.args.runs.now c.args.w)
+pub returns-then-x-from : goal.returns-then-x-from
+returns-then-x-from c =
+    let end = edge-read c.args.runs.edges.now c.args.runs.w c.loop-i.i c.loop-i-test.true in
+    cursor-found _ _ _ _ (omega arith) c.loop-i.invariant (omega (arith, c.from.ensures, c.if-x-from.true))
 
-pub overflow_add-i : goal.overflow_add-i
-overflow_add-i c =
-    let within = cursor-inside c.args.runs.now c.args.w (suc c.loop-i.i) _ (le_refl _) (omega arith) in
-    omega arith
-
-pub loop-i-smaller : goal.loop-i-smaller
-loop-i-smaller c =
-    let within = cursor-inside c.args.runs.now c.args.w (suc c.loop-i.i) _ (le_refl _) (omega arith) in
-    omega arith
+pub returns : goal.returns
+returns c =
+    let end = edge-past c.args.runs.edges.now c.args.runs.w (suc (length c.args.runs.edges.now)) (omega arith) in
+    cursor-found _ _ _ _ (omega arith) (λ k less. c.loop-i.invariant k (omega arith)) (omega (arith, c.requires))

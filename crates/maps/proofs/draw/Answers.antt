@@ -1,22 +1,18 @@
 -- What the loop keeps is a law of `Drawing` (proofs/Draws.antt); an edge stays on the wheel.
-use Rattle.std.proofs.Common.{arith}
-use Rattle.maps.proofs.Draws.{draw-start, place_inside, draw-next, draw-end}
+use Rattle.std.proofs.Common.{rules, arith}
+use Rattle.runs.proofs.Ordered.{runs_in}
+use Rattle.maps.proofs.Draws.{draw-start, draw-next, draw-inside, draw-end}
 use Rattle.maps.proofs.draw.Goals as goal
 
 pub loop-i-init : goal.loop-i-init
-loop-i-init c = draw-start c.requires
+loop-i-init c = draw-start _ _ _
 
+-- `search` finds what `end` is, so that must-fail/ones_too_far.edit falls by what is false of it.
 pub stretch-requires : goal.stretch-requires
-stretch-requires c = place_inside c.loop-i.invariant _ c.end-start.ensures
-
-pub stretch-requires-in-loop-i : goal.stretch-requires-in-loop-i
-stretch-requires-in-loop-i c =
-    let inside = place_inside c.loop-i.invariant _ c.end-end.ensures in
-    omega (arith, c.stretch.ensures.long)
+stretch-requires c = draw-inside c.loop-i.invariant (runs_in c.args.runs.runs) c.requires c.loop-i-test.true (search rules)
 
 pub loop-i-preserved : goal.loop-i-preserved
-loop-i-preserved c =
-    draw-next c.loop-i.invariant c.end-start.ensures c.end-end.ensures c.stretch.ensures c.stretch-in-loop-i.ensures
+loop-i-preserved c = draw-next c.loop-i.invariant c.stretch.ensures c.loop-i-test.true (search rules)
 
 pub returns : goal.returns
-returns c = draw-end c.loop-i.invariant c.loop-i-test.false c.stretch-2.ensures
+returns c = draw-end c.loop-i.invariant c.requires (omega arith) c.stretch-2.ensures

@@ -1,9 +1,10 @@
--- The bits read back are the number (proofs/Signs.antt).
-use Rattle.octets.proofs.Signs.{signed_is, less-number}
+-- The library's number of these bits is the definition's (proofs/Signs.antt).
+use Rattle.std.proofs.Common.{◌∙◌, FitsSigned, w32, rules}
+use Rattle.std.proofs.lemmas.Int.{to_z-of_z}
+use Rattle.octets.proofs.Signs.{signed_is}
 use Rattle.octets.proofs.signed.Goals as goal
 
-pub returns-then-x-lt2147483648 : goal.returns-then-x-lt2147483648
-returns-then-x-lt2147483648 c = signed_is c.args.x
-
 pub returns : goal.returns
-returns c = less-number _ c.ranges.x.fits c.if-x-lt2147483648.false
+returns c =
+    let fits : FitsSigned w32 c.cast_signed.result = search rules in
+    to_z-of_z w32 c.cast_signed.result fits ∙ c.cast_signed.ensures ∙ signed_is c.args.x

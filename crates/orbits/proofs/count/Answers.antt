@@ -2,6 +2,7 @@
 use Rattle.std.proofs.Common.{arith}
 use Rattle.std.proofs.Math.Nat.{mod-lt}
 use Rattle.divisor.proofs.Divisor.{gcd-some}
+use Rattle.runs.proofs.Ordered.{runs_ordered}
 use Rattle.orbits.proofs.Rounds.{round-some}
 use Rattle.orbits.proofs.Laps.{round-most}
 use Rattle.orbits.proofs.Members.{count-end, runs-mapped}
@@ -24,7 +25,10 @@ nonzero_rem-p c = gcd-some c.gcd-g.ensures c.requires.1.some
 pub met-requires : goal.met-requires
 met-requires c =
     let d = c.gcd-g.ensures in
-    (runs-mapped _ _ c.requires.0, d.left, mod-lt _ (gcd-some d c.requires.1.some))
+    (d.left, mod-lt _ (gcd-some d c.requires.1.some))
+
+pub invariant_of-ticks : goal.invariant_of-ticks
+invariant_of-ticks c = record { runs = runs_ordered (runs-mapped _ _ c.requires.0) }
 
 -- The count, and that it is at most k.
 pub returns : goal.returns

@@ -4,7 +4,7 @@ use Rattle.orbits.proofs.Members.{Meeting}
 use Rattle.orbits.proofs.met.Given as goal
 
 abbrev pub invariant-loop-i : goal.invariant-loop-i
-invariant-loop-i l = Meeting l.runs l.w l.g l.c l.n l.i
+invariant-loop-i l = Meeting l.runs.edges.now l.runs.w l.g l.c l.n l.i
 
 abbrev pub decreases-loop-i : goal.decreases-loop-i
-decreases-loop-i l = length l.runs - l.i
+decreases-loop-i l = length l.runs.edges.now - l.i

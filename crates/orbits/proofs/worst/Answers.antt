@@ -21,16 +21,14 @@ pub loop-c-init : goal.loop-c-init
 loop-c-init c = orbits-none _ _ _ _ _
 
 pub lap-found-requires : goal.lap-found-requires
-lap-found-requires c =
-    let asked = lap-asked c.requires c.gcd-orbits.ensures c.loop-c-test.true in
-    (asked.0, asked.1, asked.2, omega (arith, asked.3), asked.4)
+lap-found-requires c = lap-asked c.requires c.gcd-orbits.ensures c.loop-c-test.true
 
 pub raised-requires : goal.raised-requires
 raised-requires c = lapped-fits _ c.fits-rounds.ensures c.lap-found.ensures (ring_of c.requires (le_refl _))
 
 pub loop-c-preserved : goal.loop-c-preserved
 loop-c-preserved c =
-    orbits-next _ c.fits-rounds.ensures c.lap-found.ensures c.loop-c.invariant c.loop-c-test.true c.raised.ensures c.larger-best.ensures
+    orbits-next _ c.fits-rounds.ensures c.lap-found.ensures c.loop-c.invariant c.loop-c-test.true c.raised.ensures c.max-best.ensures
 
 pub overflow_cast-result : goal.overflow_cast-result
 overflow_cast-result c =

@@ -1,27 +1,25 @@
--- `quick::quick` meets its contract: one law for each way out (proofs/Replies.antt). Assumes nothing.
-use Rattle.std.proofs.Common.{sym, ◌∙◌}
+-- One law for each way out (proofs/Replies.antt). Assumes nothing.
+use Rattle.std.proofs.lemmas.Result.{err_from_is_err_and}
 use Rattle.records.proofs.Parts.{sizes-long}
-use Rattle.records.proofs.Accepts.{good-accepted}
+use Rattle.records.proofs.Accepts.{good-checked}
 use Rattle.quick.proofs.Replies.{quick-sizes, quick-refused, quick-answered}
 use Rattle.quick.proofs.quick.Goals as goal
 
-pub returns-then-n-ne0 : goal.returns-then-n-ne0
-returns-then-n-ne0 c =
-    rw (c.refused.ensures.0, c.refused.ensures.1) (quick-sizes _ _ _ c.sizes-n.ensures c.if-n-ne0.true)
+pub returns-in_err-sizes : goal.returns-in_err-sizes
+returns-in_err-sizes c =
+    let p = err_from_is_err_and c.from_residual.result c.from_residual.ensures.1 in
+    rw (p.1, p.2) (quick-sizes _ _ _ c.in_err-sizes.ensures)
 
 pub read-requires : goal.read-requires
-read-requires c = sizes-long _ _ (sym c.sizes-n.ensures ∙ c.if-n-ne0.false)
+read-requires c = sizes-long _ _ c.in_ok-sizes.ensures.0
 
-pub firm-requires : goal.firm-requires
-firm-requires c = good-accepted _ _ _ (sym c.in-Accepted.ensures)
+pub returns-in_err-job : goal.returns-in_err-job
+returns-in_err-job c =
+    let p = err_from_is_err_and c.from_residual-in_err-job.result c.from_residual-in_err-job.ensures.1 in
+    rw (p.1, p.2) (quick-refused _ _ c.in_ok-sizes.ensures.0 _ c.read.ensures _ c.in_err-job.ensures)
 
-pub returns-in-Refused : goal.returns-in-Refused
-returns-in-Refused c =
-    let good = sym c.sizes-n.ensures ∙ c.if-n-ne0.false in
-    rw (c.refused-in-Refused.ensures.0, c.refused-in-Refused.ensures.1)
-    (quick-refused _ _ good _ c.read.ensures _ (sym c.in-Refused.ensures))
+pub invariant_of-accepted : goal.invariant_of-accepted
+invariant_of-accepted c = record { good = good-checked _ _ _ c.in_ok-job.ensures }
 
-pub returns-in-Accepted : goal.returns-in-Accepted
-returns-in-Accepted c =
-    let good = sym c.sizes-n.ensures ∙ c.if-n-ne0.false in
-    quick-answered _ _ good _ c.read.ensures _ _ (sym c.in-Accepted.ensures) c.firm.ensures
+pub returns : goal.returns
+returns c = quick-answered _ _ c.in_ok-sizes.ensures.0 _ c.read.ensures _ _ c.in_ok-job.ensures c.firm.ensures

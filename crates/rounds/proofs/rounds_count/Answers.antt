@@ -1,37 +1,34 @@
--- One law for each way out (proofs/Gates.antt).
-use Rattle.std.proofs.Common.{sym, ◌∙◌, arith}
+-- What is accepted is asked, and the reply is what it answers (proofs/Gates.antt).
+use Rattle.std.proofs.lemmas.Result.{err_from_is_err_and}
+use Rattle.records.specs.Refusals.{beyond}
 use Rattle.records.proofs.Parts.{sizes-long}
-use Rattle.rounds.proofs.Bodies.{ready-accepted}
-use Rattle.rounds.proofs.Gates.{count-sizes, count-refused, count-beyond, count-inside}
+use Rattle.rounds.proofs.Gates.{count-sizes, count-body, count-beyond, count-asked, counted}
 use Rattle.rounds.proofs.rounds_count.Goals as goal
 
-pub returns-then-n-ne0 : goal.returns-then-n-ne0
-returns-then-n-ne0 c =
-    let refused = c.refused.ensures in
-    rw (refused.0, refused.1) (count-sizes _ _ _ _ c.sizes-n.ensures c.if-n-ne0.true)
+pub returns-in_err-sizes : goal.returns-in_err-sizes
+returns-in_err-sizes c =
+    let p = err_from_is_err_and c.from_residual.result c.from_residual.ensures.1 in
+    rw (p.1, p.2) (count-sizes _ _ _ _ c.in_err-sizes.ensures)
 
 pub read-requires : goal.read-requires
-read-requires c = sizes-long _ _ (sym c.sizes-n.ensures ∙ c.if-n-ne0.false)
+read-requires c = sizes-long _ _ c.in_ok-sizes.ensures.0
 
-pub overflow_mul-turn : goal.overflow_mul-turn
-overflow_mul-turn c = omega (arith, (ready-accepted _ _ _ (sym c.in-Accepted.ensures)).good.most)
+pub returns-in_err-job : goal.returns-in_err-job
+returns-in_err-job c =
+    let p = err_from_is_err_and c.from_residual-in_err-job.result c.from_residual-in_err-job.ensures.1 in
+    rw (p.1, p.2) (count-body _ _ _ c.in_ok-sizes.ensures.0 _ c.read.ensures _ c.in_err-job.ensures)
 
-pub returns-then-turn-offset : goal.returns-then-turn-offset
-returns-then-turn-offset c =
-    let refused = c.refused-then-turn-offset.ensures in
-    let good = sym c.sizes-n.ensures ∙ c.if-n-ne0.false in
-    rw (refused.0, refused.1) (count-beyond _ _ _ good _ c.read.ensures _ (sym c.in-Accepted.ensures) c.if-turn-offset.true)
+pub returns-in_err-when : goal.returns-in_err-when
+unfolding beyond
+returns-in_err-when c =
+    let p = err_from_is_err_and c.from_residual-in_err-when.result c.from_residual-in_err-when.ensures.1 in
+    rw (p.1, p.2) (count-beyond _ _ _ c.in_ok-sizes.ensures.0 _ c.read.ensures _ c.in_ok-job.ensures _ c.in_err-when.ensures)
 
 pub count-requires : goal.count-requires
-count-requires c = (ready-accepted _ _ _ (sym c.in-Accepted.ensures), c.if-turn-offset.false)
+unfolding beyond
+count-requires c = count-asked _ _ _ _ c.in_ok-job.ensures c.in_ok-when.ensures.0
 
-pub returns-in-Refused : goal.returns-in-Refused
-returns-in-Refused c =
-    let refused = c.refused-in-Refused.ensures in
-    let good = sym c.sizes-n.ensures ∙ c.if-n-ne0.false in
-    rw (refused.0, refused.1) (count-refused _ _ _ good _ c.read.ensures _ (sym c.in-Refused.ensures))
-
-pub returns-else-turn-offset : goal.returns-else-turn-offset
-returns-else-turn-offset c =
-    let good = sym c.sizes-n.ensures ∙ c.if-n-ne0.false in
-    count-inside _ _ _ good _ c.read.ensures _ (sym c.in-Accepted.ensures) c.if-turn-offset.false _ c.count.ensures
+pub returns : goal.returns
+unfolding beyond
+returns c =
+    counted _ _ _ c.in_ok-sizes.ensures.0 _ c.read.ensures _ c.in_ok-job.ensures c.in_ok-when.ensures.0 _ c.count.ensures

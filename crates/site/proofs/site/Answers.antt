@@ -1,18 +1,24 @@
--- `site::site` meets its contract: one law for each way out (proofs/Sites.antt). Assumes nothing.
-use Rattle.std.proofs.Common.{sym, ◌∙◌, arith}
-use Rattle.site.proofs.Sites.{roomy, site-sizes, site-room, site-walked}
+-- One law for each way out (proofs/Sites.antt). Assumes nothing.
+use Rattle.std.proofs.lemmas.Result.{err_from_is_err_and}
+use Rattle.site.specs.Site.{site_room}
+use Rattle.site.proofs.Sites.{roomy, sited-sizes, sited-room, sited-walked}
 use Rattle.site.proofs.site.Goals as goal
 
-pub returns-then-n-ne0 : goal.returns-then-n-ne0
-returns-then-n-ne0 c = site-sizes _ _ _ _ c.whole-n.ensures c.if-n-ne0.true
+pub returns-in_err-whole : goal.returns-in_err-whole
+returns-in_err-whole c =
+    let p = err_from_is_err_and c.from_residual.result c.from_residual.ensures.1 in
+    rw (p.1, p.2) (sited-sizes _ _ _ _ c.in_err-whole.ensures)
 
-pub returns-then-reply-room : goal.returns-then-reply-room
-returns-then-reply-room c =
-    site-room _ _ _ (sym c.whole-n.ensures ∙ c.if-n-ne0.false) (omega (arith, c.if-reply-room.true))
+pub returns-in_err-when : goal.returns-in_err-when
+unfolding site_room
+returns-in_err-when c =
+    let p = err_from_is_err_and c.from_residual-in_err-when.result c.from_residual-in_err-when.ensures.1 in
+    rw (p.1, p.2) (sited-room _ _ _ c.in_ok-whole.ensures.0 _ c.in_err-when.ensures)
 
 pub walk-requires : goal.walk-requires
-walk-requires c = roomy _ _ _ (sym c.whole-n.ensures ∙ c.if-n-ne0.false) (omega (arith, c.if-reply-room.false))
+unfolding site_room
+walk-requires c = roomy _ _ _ c.in_ok-whole.ensures.0 c.in_ok-when.ensures.0
 
 pub returns : goal.returns
-returns c =
-    site-walked _ _ _ (sym c.whole-n.ensures ∙ c.if-n-ne0.false) _ (omega (arith, c.if-reply-room.false)) c.walk.ensures
+unfolding site_room
+returns c = sited-walked _ _ _ c.in_ok-whole.ensures.0 _ c.in_ok-when.ensures.0 c.walk.ensures

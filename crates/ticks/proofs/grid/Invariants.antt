@@ -5,7 +5,7 @@ use Rattle.ticks.proofs.Marks.{Gridding}
 use Rattle.ticks.proofs.grid.Given as goal
 
 abbrev pub invariant-loop-i : goal.invariant-loop-i
-invariant-loop-i l = Gridding l.marks l.g l.all l.j l.initial.runs l.runs l.n l.at l.met l.seen l.i
+invariant-loop-i l = Gridding l.marks l.g l.all l.j l.initial.runs l.runs l.reach.n l.reach.at l.reach.met l.seen l.i
 
 abbrev pub decreases-loop-i : goal.decreases-loop-i
 decreases-loop-i l = length l.marks - l.i

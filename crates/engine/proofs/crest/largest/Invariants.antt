@@ -1,11 +1,8 @@
--- The loop's invariant: m is the largest entry before i, or the first where there is none yet (`Most`). The
--- measure is what is left.
-use Rattle.std.proofs.Common.{◌-◌, ◌≤◌}
+-- The loop's invariant: m is the largest entry so far, or the first where there is none yet (`Most`).
+use Rattle.std.proofs.Common.{length}
 use Rattle.engine.specs.First.{Most}
 use Rattle.engine.proofs.crest.largest.Given as goal
 
-abbrev pub invariant-loop-i : goal.invariant-loop-i
-invariant-loop-i l = (l.from ≤ l.i) × (l.i ≤ l.to) × Most l.x l.from l.i l.to l.m
-
-abbrev pub decreases-loop-i : goal.decreases-loop-i
-decreases-loop-i l = l.to - l.i
+abbrev pub invariant-loop-v : goal.invariant-loop-v
+invariant-loop-v g l =
+    Most (g.T.Entry.values l.block) 0 l.v-index (length (g.T.Entry.values l.block)) (g.T.Entry.value l.m)

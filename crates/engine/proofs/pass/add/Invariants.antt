@@ -1,11 +1,8 @@
--- The loop's invariant: the places before i are passed, and j keeps pace with i (`Going`). The measure is what is
--- left of the stretch.
-use Rattle.std.proofs.Common.{◌-◌}
-use Rattle.engine.proofs.Turns.{Going}
+-- The loop's invariant: the entries before i are sums.
+use Rattle.std.proofs.Common.{◌≡◌, ℕ, ◌+◌, ◌<◌, get_or}
 use Rattle.engine.proofs.pass.add.Given as goal
 
 abbrev pub invariant-loop-i : goal.invariant-loop-i
-invariant-loop-i l = Going l.initial.sum l.sum l.x l.y l.from l.to l.at l.i l.j
-
-abbrev pub decreases-loop-i : goal.decreases-loop-i
-decreases-loop-i l = l.to - l.i
+invariant-loop-i g l =
+    (k : ℕ) → k < l.i
+    → get_or (g.S.Entry.values l.sum) k 0 ≡ get_or (g.X.Entry.values l.x) k 0 + get_or (g.Y.Entry.values l.y) k 0

@@ -1,18 +1,12 @@
--- The laws are in proofs/Bytes.antt.
-use Rattle.std.proofs.Common.{arith, eqb, get_or}
-use Rattle.rules.proofs.Sums.{bit_le}
-use Rattle.grants.proofs.Bytes.{numbered-none, numbered_more, numbered-all}
+-- Counting bytes is counting their places (proofs/Bytes.antt).
+use Rattle.std.proofs.Common.{◌≡◌, ◌∙◌, rules, eqb, count_by, arith}
+use Rattle.std.proofs.lemmas.List.Sums.{count_by-le-length}
+use Rattle.ticks.specs.Ticks.{free_of}
+use Rattle.grants.proofs.Bytes.{number-list}
 use Rattle.grants.proofs.marks.free.Goals as goal
 
-pub loop-i-init : goal.loop-i-init
-loop-i-init c = numbered-none _
-
-pub overflow_add-n : goal.overflow_add-n
-overflow_add-n c =
-    omega (arith, c.loop-i.invariant.few, c.free-n.ensures, bit_le (eqb (get_or c.args.marks.now c.loop-i.i 0) 1))
-
-pub loop-i-preserved : goal.loop-i-preserved
-loop-i-preserved c = numbered_more _ _ _ _ c.loop-i.invariant (omega arith) c.free-n.ensures
-
 pub returns : goal.returns
-returns c = numbered-all _ _ _ c.loop-i.invariant (omega arith)
+unfolding free_of
+returns c =
+    let e : c.count.result ≡ count_by (λ x. eqb x 1) c.args.marks.now = search rules in
+    (e ∙ number-list (λ x. eqb x 1) c.args.marks.now, omega (arith, e, count_by-le-length (λ x. eqb x 1) c.args.marks.now))

@@ -1,19 +1,22 @@
 -- The laws are in proofs/Bytes.antt.
-use Rattle.std.proofs.Common.{arith, eqb, get_or}
-use Rattle.rules.proofs.Sums.{bit_le}
-use Rattle.grants.proofs.Bytes.{giving-none, giving-more, giving-all}
+use Rattle.std.proofs.Common.{◌<◌, length, sym, ◌∙◌, arith}
+use Rattle.grants.proofs.Bytes.{giving-none, giving-given, giving-late, giving-taken}
 use Rattle.grants.proofs.marks.give.Goals as goal
+use Rattle.grants.proofs.marks.give.Goals.{then-free, then-seen-j, else-seen-j, else-free}
 
-pub loop-i-init : goal.loop-i-init
-loop-i-init c = giving-none _ _
+pub loop-mark-init : goal.loop-mark-init
+loop-mark-init c = giving-none _ _
 
-pub overflow_add-seen : goal.overflow_add-seen
-overflow_add-seen c =
-    let so_far = c.loop-i.invariant.numbered in
-    omega (arith, so_far.few, so_far.upto, c.free-seen.ensures, bit_le (eqb (get_or c.loop-i.marks c.loop-i.i 0) 1))
-
-pub loop-i-preserved : goal.loop-i-preserved
-loop-i-preserved c = giving-more _ _ _ _ _ _ _ c.loop-i.invariant (omega arith) c.after.ensures c.free-seen.ensures
-
-pub returns : goal.returns
-returns c = giving-all _ _ _ _ _ c.loop-i.invariant (omega arith)
+pub loop-mark-preserved : goal.loop-mark-preserved
+loop-mark-preserved c =
+    let inv = c.loop-mark.invariant in
+    let less : c.loop-mark.mark-index < length c.loop-mark.marks = omega (arith, c.loop-mark.auto.marks) in
+    elim c.if-free.branch [
+      | then-free w ↦ elim w.if-seen-j.branch [
+        | then-seen-j w' ↦ rw (w.marks-is, w'.marks-is, w.seen-is)
+            (giving-given _ _ _ _ _ inv less (sym c.free.ensures ∙ w.if-free.true) w'.if-seen-j.true)
+        | else-seen-j w' ↦ rw (w.marks-is, w'.marks-is, w.seen-is)
+            (giving-late _ _ _ _ _ inv less (sym c.free.ensures ∙ w.if-free.true) w'.if-seen-j.false)
+      ]
+      | else-free w ↦ rw (w.marks-is, w.seen-is) (giving-taken _ _ _ _ _ inv less (sym c.free.ensures ∙ w.if-free.false))
+    ]

@@ -3,4 +3,4 @@ use Rattle.promises.proofs.Boards.{same-packed}
 use Rattle.promises.proofs.others.count.Goals as goal
 
 pub returns : goal.returns
-returns c = same-packed c.requires _ (λ same. same.counted _) c.fiddlequill_count.ensures c.fiddlequill_count-2.ensures
+returns c = same-packed (c.args.boards.twins, c.args.boards.same) _ (λ same. same.counted _) c.fiddlequill_count.ensures c.fiddlequill_count-2.ensures

@@ -9,5 +9,5 @@ pub returns : goal.returns
 returns c =
     let one = c.fiddlequill_quick.ensures in
     let other = c.fiddlequill_quick-2.ensures in
-    let same = verdicts-agree _ _ _ _ _ _ _ _ c.requires.0 c.requires.1 one.call other.call in
+    let same = verdicts-agree _ _ _ _ _ _ _ _ c.args.boards.twins c.args.boards.same one.call other.call in
     one.result ∙ (λ i. packed (same.0 i) (bit (same.1 i))) ∙ sym other.result

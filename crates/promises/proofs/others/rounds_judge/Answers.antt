@@ -4,4 +4,4 @@ use Rattle.promises.proofs.others.rounds_judge.Goals as goal
 
 pub returns : goal.returns
 returns c =
-    (rounds-are-silent _ _ _ _ c.requires.0 c.requires.1).judged _ _ _ _ _ (rw c.requires.2 at c.fiddlequill_rounds_judge.ensures) c.fiddlequill_rounds_judge-2.ensures
+    (rounds-are-silent _ _ _ _ c.args.boards.twins c.args.boards.same).judged _ _ _ _ _ (rw c.requires at c.fiddlequill_rounds_judge.ensures) c.fiddlequill_rounds_judge-2.ensures

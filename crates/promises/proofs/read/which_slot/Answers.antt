@@ -7,4 +7,4 @@ pub returns : goal.returns
 returns c =
     let asked = c.fiddlequill_which_slot.ensures in
     let parts = unpacked _ _ _ asked.small asked.result in
-    rw (c.unpack-parts.ensures.0 ∙ parts.0, c.unpack-parts.ensures.1 ∙ parts.1) asked.call
+    rw (c.unpack.ensures.0 ∙ parts.0, c.unpack.ensures.1 ∙ parts.1) asked.call

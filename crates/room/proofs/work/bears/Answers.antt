@@ -9,4 +9,4 @@ pub returns-in-Never : goal.returns-in-Never
 returns-in-Never c = bears-never _ _ _ _ _ c.in-Never.ensures
 
 pub returns-in-Spent : goal.returns-in-Spent
-returns-in-Spent c = bears-top _ _ _ _ _ _ _ c.top-c.ensures
+returns-in-Spent c = bears-top _ _ _ _ _ _ _ c.top.ensures

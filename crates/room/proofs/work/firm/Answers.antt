@@ -1,13 +1,13 @@
 -- `room::work::firm` meets its contract: the late runs tell, or the least margin does (proofs/Verdicts.antt). Assumes nothing.
 use Rattle.std.proofs.Common.{sym, ◌∙◌, FitsSigned, w32, rules}
 use Rattle.std.proofs.lemmas.Int.{to_z-of_z}
-use Rattle.room.proofs.Sides.{late-runs}
+use Rattle.room.proofs.Sides.{late-ordered}
 use Rattle.room.proofs.Ridges.{nearest}
 use Rattle.room.proofs.Verdicts.{decides, decides-painted}
 use Rattle.room.proofs.work.firm.Goals as goal
 
-pub bears-requires : goal.bears-requires
-bears-requires c = let runs = late-runs c.requires.0 c.late-pass.ensures in (runs.0, runs.1, c.requires.1)
+pub invariant_of-zones : goal.invariant_of-zones
+invariant_of-zones c = record { runs = late-ordered c.args.runs.runs c.late-pass.ensures }
 
 pub returns-then-dropped : goal.returns-then-dropped
 returns-then-dropped c = decides _ c.late-pass.ensures c.bears.ensures

@@ -2,23 +2,23 @@
 -- the walk.
 use Rattle.std.proofs.Common.{rules, FitsSigned, w32}
 use Rattle.std.proofs.lemmas.Int.{to_z-of_z}
-use Rattle.room.proofs.Sides.{lates-runs}
+use Rattle.runs.proofs.Ordered.{runs_ordered}
+use Rattle.room.proofs.Sides.{late-runs}
 use Rattle.room.proofs.Ridges.{nearest}
-use Rattle.rounds.proofs.Found.{late-any, drawn-ring, ridged}
+use Rattle.rounds.proofs.Found.{late-any, drawn-on, drawn-ring, ridged}
 use Rattle.rounds.proofs.work.found.Goals as goal
 
-pub mark-requires : goal.mark-requires
-mark-requires c = (lates-runs c.requires.0 c.late-pass.ensures).0
+pub invariant_of-laid : goal.invariant_of-laid
+invariant_of-laid c = record { runs = runs_ordered (late-runs c.requires.0.runs c.late-pass.ensures) }
 
 pub worst-top-requires : goal.worst-top-requires
 worst-top-requires c =
-    let drew = c.mark.ensures in
-    drawn-ring (lates-runs c.requires.0 c.late-pass.ensures).0 drew.0 drew.1 c.requires.1
+    drawn-ring (late-runs c.requires.0.runs c.late-pass.ensures) (drawn-on _ c.requires.0.long c.mark.ensures) c.requires.1
 
 pub offset-requires : goal.offset-requires
 offset-requires c =
-    let drew = c.mark.ensures in
-    ridged c.requires.0 c.requires.1 c.single.ensures c.late-pass.ensures drew.0 drew.1 c.worst-top.ensures
+    ridged c.requires.0 c.requires.1 c.single.ensures c.late-pass.ensures (drawn-on _ c.requires.0.long c.mark.ensures)
+    c.worst-top.ensures
 
 pub returns : goal.returns
 returns c =

@@ -1,0 +1,7 @@
+-- `Accepted::firm` meets its contract: what holds of every set of ticks that the runs lay out holds of the job's. Assumes nothing.
+use Rattle.std.proofs.Common.{rules}
+use Rattle.room.proofs.Handed.{decided}
+use Rattle.jobs.proofs.accepted.Accepted.firm.Goals as goal
+
+pub returns : goal.returns
+returns c = search (rules, decided)
