@@ -1,3 +1,4 @@
+pub mod Exits
 pub mod Replies
 pub mod Gates
 pub mod Answered

@@ -1,5 +1,5 @@
 -- What comes of a task record, and the reply that docs/RULES.md names for it. Assumes nothing.
-use mathlib.Core.Path.{◌≡◌, refl, sym, ap, ◌∙◌}
+use mathlib.Core.Path.{◌≡◌, refl, sym, ◌∙◌}
 use mathlib.Core.Logic.{◌⊎◌, ⊎_elim}
 use mathlib.Core.List.{List}
 use Prim.Native.Nat.{ℕ, ◌≤◌, ◌<◌}
@@ -12,7 +12,7 @@ use Rattle.std.specs.Prelude.{Result, Ok, Err}
 use Rattle.rules.specs.Worst.{firm_test}
 use Rattle.rules.proofs.Worst.{firm-agrees}
 use Rattle.octets.specs.Octets.{over}
-use Rattle.limits.specs.Refusal.{number, refusal}
+use Rattle.limits.specs.Refusal.{number, refusal, ◌otherwise◌}
 use Rattle.limits.specs.Limits.{asked}
 use Rattle.limits.specs.declared.Refusal.{Refusal}
 use Rattle.limits.proofs.Refusals.{at_next, when_false, when-all, when-none}
@@ -66,7 +66,7 @@ unfolding room
 room-none reply long = when_false 2 _ (le-ltb _ _ long)
 
 module _ (task slots reply : List ℕ) where
-  pub replied-silent : (bad : Refusal) → number bad ≤ 2 → Replied task slots reply (number bad) reply
+  replied-silent : (bad : Refusal) → number bad ≤ 2 → Replied task slots reply (number bad) reply
   replied-silent bad low =
       record {
         silent = λ _. refl;
@@ -101,35 +101,35 @@ module _ (task slots reply : List ℕ) where
         answered = λ none. absurd (number-some bad none);
       }
 
-  -- What is written for what comes of a record, and the number that is passed on.
-  pub replied-as : (n m : ℕ) (r : TaskRecord) (x : Result Found Refusal) (after : List ℕ) → r ≡ task_record task
-      → Outcome r slots n x → ((n ≡ 0 → ⊥) → 2 < n) → m ≡ refusal x → after ≡ over (answer_of r.id x) reply
-      → (m ≡ n) × Replied task slots reply m after
-  replied-as n m r x after e o high passed written =
-      let here : Outcome (task_record task) slots n x = rw e at o in
-      (passed ∙ outcome-number _ slots n x here, rw passed (replied n x after here high (rw e at written)))
+  -- ---- the ways out of judging, by either engine: what it refuses of a body comes after the sizes and the reply's
 
-  -- ---- the ways out of judging
+  -- What a call has given and left.
+  abbrev pub Called : ℕ → ℕ → List ℕ → Type 0
+  Called body n after = (n ≡ (sizes task slots otherwise room reply otherwise body)) × Replied task slots reply n after
 
-  with_number : {n : ℕ} {after : List ℕ} → n ≡ judge_refusal task slots reply → Replied task slots reply n after → Judged task slots reply n after
-  with_number number left = record { number = number; silent = left.silent; refused = left.refused; answered = left.answered }
-
-  pub judged-sizes : (bad : Refusal) → number bad ≡ sizes task slots → Judged task slots reply (number bad) reply
-  unfolding judge_refusal
-  judged-sizes bad e =
+  pub called-sizes : (body : ℕ) (bad : Refusal) → number bad ≡ sizes task slots → Called body (number bad) reply
+  called-sizes body bad e =
       let one : number bad ≡ 1 = e ∙ sizes-one task slots (λ z. number-some bad (e ∙ z)) in
-      with_number (err_first bad _ _ e) (replied-silent bad (omega arith))
+      (err_first bad _ _ e, replied-silent bad (omega arith))
 
-  module _ (good : sizes task slots ≡ 0) where
-    pub judged-room : (bad : Refusal) → number bad ≡ room reply → Judged task slots reply (number bad) reply
-    unfolding judge_refusal
-    judged-room bad e =
-        with_number (err_next bad _ _ good (err_first bad _ _ e)) (replied-silent bad (room-low reply bad e))
+  pub called-room : (body : ℕ) → sizes task slots ≡ 0 → (bad : Refusal) → number bad ≡ room reply → Called body (number bad) reply
+  called-room body good bad e = (err_next bad _ _ good (err_first bad _ _ e), replied-silent bad (room-low reply bad e))
 
-    pub judged-as : (m : ℕ) (r : TaskRecord) (x : Result Found Refusal) (after : List ℕ) → room reply ≡ 0 → r ≡ task_record task
-        → Outcome r slots (body_refusal r slots) x → m ≡ refusal x → after ≡ over (answer_of r.id x) reply
-        → Judged task slots reply m after
-    unfolding judge_refusal
-    judged-as m r x after long e o passed written =
-        let left = replied-as _ m r x after e o (body-high r slots _ refl) passed written in
-        with_number (at_next _ _ _ good (at_next _ _ _ long (left.0 ∙ ap (λ y. body_refusal y slots) e))) left.1
+  -- What is written for what comes of a record, and the number that is passed on.
+  pub called-as : (body : TaskRecord → ℕ) (m : ℕ) (r : TaskRecord) (x : Result Found Refusal) (after : List ℕ) → sizes task slots ≡ 0
+      → room reply ≡ 0 → r ≡ task_record task → Outcome r slots (body r) x → ((body r ≡ 0 → ⊥) → 2 < body r) → m ≡ refusal x
+      → after ≡ over (answer_of r.id x) reply → Called (body (task_record task)) m after
+  called-as body m r x after good long e o high passed written =
+      let here : Outcome (task_record task) slots (body (task_record task)) x = rw e at o in
+      let left : Replied task slots reply m after = rw passed (replied _ x after here (rw e at high) (rw e at written)) in
+      (at_next _ _ _ good (at_next _ _ _ long (passed ∙ outcome-number _ slots _ x here)), left)
+
+  pub judged : {n : ℕ} {after : List ℕ} → Called (body_refusal (task_record task) slots) n after → Judged task slots reply n after
+  unfolding judge_refusal
+  judged (number, left) = record { number = number; silent = left.silent; refused = left.refused; answered = left.answered }
+
+  pub judged-as : (good : sizes task slots ≡ 0) (m : ℕ) (r : TaskRecord) (x : Result Found Refusal) (after : List ℕ) → room reply ≡ 0
+      → r ≡ task_record task → Outcome r slots (body_refusal r slots) x → m ≡ refusal x → after ≡ over (answer_of r.id x) reply
+      → Judged task slots reply m after
+  judged-as good m r x after long e o said written =
+      judged (called-as (λ y. body_refusal y slots) m r x after good long e o (body-high r slots _ refl) said written)

@@ -1,11 +1,10 @@
--- Places in runs: edges rise, and a cursor that comes to an edge moves on by one run.
+-- Places in runs: a cursor that comes to an edge moves on by one run.
 --
--- In order: edges rise; a cursor on its way; a part of the runs. Assumes nothing.
+-- In order: where a tick lies; a cursor on its way; a part of the runs. Assumes nothing.
 use mathlib.Core.Path.{◌≡◌, refl, ap, ◌∙◌}
 use mathlib.Core.Logic.{⊎_elim}
 use mathlib.Core.List.{List}
-use Prim.Native.Nat.{ℕ, zero, suc, ◌+◌, ◌-◌, ◌≤◌, ◌<◌, zero-le}
-use native.Mathlib.Nat.{add-zero, add-suc, le_refl}
+use Prim.Native.Nat.{ℕ, zero, suc, ◌+◌, ◌≤◌, ◌<◌, zero-le}
 use native.Mathlib.Numerals.{add-one}
 use native.Mathlib.Omega.{arith}
 use lib.ListN.{length, get_or, take}
@@ -15,26 +14,6 @@ use Rattle.rules.proofs.Sums.{le-or-lt}
 use Rattle.runs.specs.Runs.{edge, Lay}
 use Rattle.runs.proofs.Edges.{edge-within, edge-read, edge-past}
 use Rattle.late.specs.Late.{Cursor, Passed}
-
--- ---- edges
-
-module _ (l : List ℕ) (to : ℕ) (order : (i : ℕ) → edge l to i ≤ edge l to (suc i)) where
-  edge_on : (i k : ℕ) → edge l to i ≤ edge l to (i + k)
-  edge_on i zero = rw add-zero (le_refl _)
-  edge_on i (suc k) = rw add-suc (omega (arith, edge_on i k, order (i + k)))
-
-  edge-rises : (i k : ℕ) → i ≤ k → edge l to i ≤ edge l to k
-  edge-rises i k h =
-      let e : i + (k - i) ≡ k = omega arith in
-      rw e at (edge_on i (k - i))
-
-  pub edge-most : (i : ℕ) → edge l to i ≤ to
-  edge-most i =
-      let last : edge l to (suc (length l)) ≡ to = edge-past l to (suc (length l)) (omega arith) in
-      ⊎_elim
-      (λ (h : i ≤ length l). omega (arith, edge-rises i (suc (length l)) (omega arith)))
-      (λ (h : length l < i). omega (arith, edge-past l to i h))
-      (le-or-lt i (length l))
 
 -- ---- where a tick lies
 

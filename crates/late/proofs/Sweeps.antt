@@ -17,12 +17,13 @@ use Rattle.rules.proofs.Sums.{le-or-lt}
 use Rattle.rules.proofs.Straight.{supply-next}
 use Rattle.rules.proofs.Least.{lowest-on}
 use Rattle.runs.specs.Runs.{edge}
+use Rattle.runs.proofs.Edges.{edge-most}
 use Rattle.counts.proofs.Windows.{supply-le}
 use Rattle.late.specs.declared.Walk.{Walk}
 use Rattle.late.specs.Pieces.{short, Line, Slope, off, Stretch}
 use Rattle.late.specs.Late.{Cursor, Way, Walked, Walks, Outset, Swept, Passed}
 use Rattle.late.proofs.Pieces.{line-lowest}
-use Rattle.late.proofs.Cursors.{edge-most, cursor-inside, cursor-moves}
+use Rattle.late.proofs.Cursors.{cursor-inside, cursor-moves}
 
 -- ---- supply between edges
 

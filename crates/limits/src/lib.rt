@@ -50,7 +50,8 @@ pub struct Wheel {
     pub w: usize,
 }
 
-// What the art desk asks, accepted: e ticks for each strip within d, a strip every h ticks, at least m of any k painted.
+// What the art desk asks, accepted: e ticks for each strip within d, a strip every h ticks, at least m of any k painted. What the first engine's
+// bounds say of it (`Within`) is no ghost field: the definitions make a task of any numbers, and whole rounds one of a million strips.
 #[derive(Clone, Copy)]
 pub struct Task {
     pub e: usize,

@@ -1,6 +1,7 @@
 #![tactic(auto)]
 
-// Lines of the printed sheet, put into a buffer at a place. Each function gives the place behind what it put.
+// Lines of the printed sheet, put into a buffer at a place. Each function gives the place behind what it put; buffer and place stay apart, since
+// the public calls promise (`Put`) what they left of both.
 ghost use Rattle.std.specs.Prelude.{◌≡◌, ◌+◌, ◌≤◌, ◌<◌, leb, length};
 ghost use Rattle.records.specs.Records.{reply_bytes};
 ghost use Rattle.lines.specs.Lines.{longest_line, refused_long};

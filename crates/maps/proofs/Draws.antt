@@ -4,27 +4,22 @@
 use mathlib.Core.Path.{◌≡◌, refl, sym, ap, ◌∙◌}
 use mathlib.Core.Logic.{⊎_elim}
 use mathlib.Core.List.{List}
-use Prim.Native.Nat.{ℕ, zero, suc, ◌+◌, ◌%◌, ◌≤◌, ◌<◌}
-use native.Mathlib.Nat.{add-zero, add-suc, le_refl}
+use Prim.Native.Nat.{ℕ, suc, ◌+◌, ◌%◌, ◌≤◌, ◌<◌}
 use native.Mathlib.Numerals.{add-one}
 use native.Mathlib.Omega.{arith}
 use lib.ListN.{length, get_or}
 use Rattle.rules.specs.Sums.{Subset, bit}
 use Rattle.rules.proofs.Sums.{le-or-lt}
 use Rattle.runs.specs.Runs.{edge, Lay, Laid, Runs}
+use Rattle.runs.proofs.Edges as edges
 use Rattle.runs.proofs.Edges.{edge-read, edge-past}
+use Rattle.runs.proofs.Ordered.{runs_ordered}
 use Rattle.maps.specs.Maps.{Drawn, Stretched}
 
 -- ---- edges stay on the wheel
 
-edge-rises : {l : List ℕ} {w : ℕ} {u : Subset} → Lay l w u → (i n : ℕ) → edge l w i ≤ edge l w (i + n)
-edge-rises lay i zero = rw add-zero (le_refl _)
-edge-rises lay i (suc n) = rw add-suc (omega (arith, edge-rises lay i n, lay.order (i + n)))
-
 pub edge-most : (l : List ℕ) (w : ℕ) → Runs l w → (i : ℕ) → edge l w i ≤ w
-unfolding Runs
-edge-most l w (u, laid) i =
-    omega (arith, edge-rises laid.lay i (suc (length l)), edge-past l w (i + suc (length l)) (omega arith))
+edge-most l w runs i = edges.edge-most l w (runs_ordered runs).order i
 
 -- ---- a run more
 

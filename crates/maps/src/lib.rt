@@ -42,7 +42,8 @@ pub fn draw(runs: Ticks, map: &mut [u8])
     stretch(map, at, runs.w, (runs.edges.len() % 2) as u8);
 }
 
-// How many of k strips from tick p on meet a 1. From strip to strip the place goes on by what the period leaves beside whole turns. Four
+// How many of k strips from tick p on meet a 1. Map, period and k stay apart, here and in both engines: each hands on another of the three (k modulo
+// w, h modulo w, half of k). From strip to strip the place goes on by what the period leaves beside whole turns. Four
 // places go along, since none of them waits for another: those where the next four strips arrive.
 fn along(map: &[u8], p: usize, h: usize, k: usize) -> usize
     requires { Sized map.now h k × (p < length map.now) }

@@ -166,7 +166,8 @@ fn met(runs: Ticks, g: usize, c: usize) -> usize
     n
 }
 
-// How many of k strips from tick p on meet a 1: those of a round as often as it fits into k, and those that are left over.
+// How many of k strips from tick p on meet a 1: those of a round as often as it fits into k, and those that are left over. The runs are a bare
+// list, since what is known of them is that the map is drawn from them (`Mapped`).
 pub fn count(runs: &[u16], map: &[u8], p: usize, h: usize, k: usize) -> usize
     requires { Mapped runs.now map.now × Ring map.now h k × (p < length map.now) }
     ensures { (result ≡ fallen map.now h k p) × (result ≤ k) }

@@ -11,7 +11,7 @@ ghost use Rattle.rounds.specs.Rounds.{rounds_point_refusal, rounds_counted_at};
 ghost use Rattle.grants.specs.Grants.{GrantCall};
 ghost use Rattle.promises.specs.Answers.{Told, RoundsTold, SiteTold, ReadAt};
 
-// The number that judging gives, and the fields of the answer record.
+// The number that judging gives, and the fields of the answer record: numbers, since C's caller reads these bytes.
 #[derive(Drop)]
 pub struct Answer {
     pub number: u32,

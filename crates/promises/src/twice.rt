@@ -1,4 +1,5 @@
-// Every public function called twice on equal inputs: the results are equal, and so is every lent buffer.
+// Every public function called twice on equal inputs: the results are equal, and so is every lent buffer. One function for each, since each is a
+// theorem of that call.
 ghost use Rattle.std.specs.Prelude.{◌≡◌};
 ghost use Rattle.lookup.specs.Lookup.{looked_up};
 

@@ -1,1 +1,2 @@
+mod Exits
 mod Replies

@@ -24,7 +24,7 @@ use Rattle.maps.specs.Maps.{Drawn, Top}
 use Rattle.maps.proofs.Strips.{met-drawn}
 use Rattle.maps.proofs.Rises.{none-met}
 use Rattle.late.specs.Late.{LateIn}
-use Rattle.room.specs.Room.{Lent, Topped, Highest, Foremost, Nearest, Tallied}
+use Rattle.room.specs.Room.{Topped, Highest, Foremost, Nearest, Tallied}
 use Rattle.room.proofs.Sides.{from-side}
 
 -- ---- the ridge of late runs
@@ -59,13 +59,6 @@ pub nearest :
     {l : List ℕ} {w : ℕ} {t : Task} {side n : ℕ} {g : ℤ} {late late' : List ℕ} → LateIn l w t side late n g late' → Nearest l w t g
 unfolding Nearest
 nearest lates = lates.least
-
--- What the work was lent stays lent.
-pub still-lent :
-    {g : ℤ} {l : List ℕ} {w : ℕ} {t : Task} {side n : ℕ} {late late' map map' : List ℕ} → Lent l w t late map
-    → LateIn l w t side late n g late' → length map' ≡ length map → Lent l w t late' map'
-still-lent lent lates kept =
-    record { runs = lent.runs; within = lent.within; room = omega (arith, lent.room, lates.long); long = kept ∙ lent.long }
 
 pub highest-inside :
     (l : List ℕ) (w : ℕ) (t : Task) (c a : ℕ) → Runs l w → Highest l w t c a → a < most_ticks

@@ -2,7 +2,6 @@
 --
 --     most_edges                the most edges of the runs that the room takes: two a slot
 --     few_edges                 up to so many edges the room has smaller arrays
---     Lent l w t late map       what the work is lent: runs l of a wheel of w ticks, a task, room for its late runs, a map of the wheel
 --     Buffers n w late map      buffers for one question of n edges on w ticks: room for late runs, and a map
 --     Doubles n a b c d         arrays to double in on n ticks: a and b of bytes, c and d of 16 bits
 --     Lends n l m a b c d       all that a caller lends for wheels of up to n ticks: l for late runs, m for a map, the others to double in
@@ -24,9 +23,9 @@ use Rattle.rules.specs.Sums.{Subset, Largest}
 use Rattle.rules.specs.Supply.{count}
 use Rattle.rules.specs.Worst.{Worst, Firm}
 use Rattle.rules.specs.Least.{Least}
-use Rattle.limits.specs.Limits.{most_slots, asked, Within}
+use Rattle.limits.specs.Limits.{most_slots, asked}
 use Rattle.limits.specs.declared.Task.{Task}
-use Rattle.runs.specs.Runs.{Laid, Runs}
+use Rattle.runs.specs.Runs.{Laid}
 use Rattle.maps.specs.Maps.{Sized, Top, met}
 use Rattle.maps.specs.declared.Crest.{Crest}
 use Rattle.late.specs.Late.{late_room}
@@ -37,12 +36,6 @@ most_edges = 2 * most_slots
 
 abbrev pub few_edges : ℕ
 few_edges = 128
-
-pub record Lent (l : List ℕ) (w : ℕ) (t : Task) (late map : List ℕ) : Type 0 where
-  pub runs : Runs l w
-  pub within : Within t
-  pub room : min (late_room (length l)) w ≤ length late
-  pub long : length map ≡ w
 
 pub record Buffers (n w : ℕ) (late map : List ℕ) : Type 0 where
   pub room : min (late_room n) w ≤ length late

@@ -44,6 +44,7 @@ fn in_size<const N: usize>(map: &[u8], h: usize, k: usize) -> Crest
     }
 }
 
+// The sizes stand here and in `drawn::top`: what is called takes its size as a const argument, and that can't be handed on.
 pub fn doubled(map: &[u8], h: usize, k: usize) -> Crest
     requires { Sized map.now h k × (0 < k) }
     ensures { Top map.now h k result.drops result.at }

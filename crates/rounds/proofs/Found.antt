@@ -1,29 +1,27 @@
 -- From one strip's late ticks to the answers of a task of many strips: where a strip is dropped, and the least margin, know nothing of m and k.
 --
 -- In order: late runs; the map of them; the largest count along it; what a job lends. Assumes nothing.
-use mathlib.Core.Path.{◌≡◌, sym, ◌∙◌}
+use mathlib.Core.Path.{◌≡◌, refl, ◌∙◌}
 use mathlib.Core.List.{List}
 use Prim.Native.Nat.{ℕ, ◌≤◌}
-use native.Mathlib.Nat.{le_of_eq, min-le_left}
 use native.Mathlib.Omega.{arith}
 use lib.IntN.{ℤ}
 use lib.ListN.{length, take}
-use lib.Seq.{length-take-le}
 use Rattle.rules.specs.Sums.{Subset}
 use Rattle.rules.specs.Supply.{margin, dropped}
-use Rattle.limits.specs.Limits.{most_ticks}
 use Rattle.limits.specs.declared.Task.{Task}
 use Rattle.runs.specs.Runs.{Laid, Runs, LaidIn}
 use Rattle.maps.specs.Maps.{Drawn, Top}
-use Rattle.late.specs.Late.{late_room, LateIn}
+use Rattle.late.specs.Late.{LateIn}
 use Rattle.orbits.specs.Orbits.{Ring}
 use Rattle.records.specs.Jobs.{job_ticks}
 use Rattle.records.specs.declared.Job.{Job}
-use Rattle.room.specs.Room.{most_edges, Lent, Highest}
+use Rattle.room.specs.Room.{most_edges, Highest}
+use Rattle.jobs.specs.Lent.{Own}
 use Rattle.room.proofs.Sides.{drawn-bits}
-use Rattle.room.proofs.Ridges.{topped-drawn, highest, still-lent}
+use Rattle.room.proofs.Ridges.{topped-drawn, highest}
 use Rattle.room.proofs.Handed.{handed}
-use Rattle.rounds.specs.Long.{single, singly, Long, Ready}
+use Rattle.rounds.specs.Long.{single, singly, Long}
 
 -- ---- late runs
 
@@ -66,36 +64,18 @@ drawn-ring {m = m} runs (long, drawn) task =
 
 -- ---- the largest count along it
 
--- The largest count along the map of late ticks is that half a tick after a tick, and what the work was lent stays lent.
+-- The largest count along the map of late ticks is that half a tick after a tick.
 pub ridged :
-    {l : List ℕ} {w : ℕ} {t s : Task} {n : ℕ} {g : ℤ} {late late' map map' : List ℕ} {c a : ℕ} → Lent l w (single t) late map → Long t
-    → s ≡ single t → LateIn l w s 1 late n g late'
-    → (length map' ≡ w) × ((z : Subset) → Laid (take n late') w z → Drawn map' z) → Top map' t.h t.k c a
-    → Lent l w (single t) late' map' × Long t × Highest l w t c a
-ridged lent task one lates (long, drawn) top = (
-  still-lent lent (late-any one lates) (long ∙ sym lent.long),
-  task,
-  highest _ _ _ _ _ _ _ _ (late-any one lates) (topped-drawn _ _ _ _ _ long drawn _ _ top),
-)
+    (t : Task) {l : List ℕ} {w : ℕ} {s : Task} {n : ℕ} {g : ℤ} {late late' map' : List ℕ} {c a : ℕ} → s ≡ single t → LateIn l w s 1 late n g late'
+    → (length map' ≡ w) × ((z : Subset) → Laid (take n late') w z → Drawn map' z) → Top map' t.h t.k c a → Highest l w t c a
+ridged t one lates (long, drawn) top = highest _ _ _ _ _ _ _ _ (late-any one lates) (topped-drawn _ _ _ _ _ long drawn _ _ top)
 
 -- ---- what a job lends
 
-pub laid-own :
-    {l m r r' : List ℕ} {n : ℕ} {j s : Job} → Ready l j → m ≡ l → s ≡ singly j → LaidIn r r' n s.wheel.w (job_ticks m s)
-    → LaidIn r r' n j.wheel.w (job_ticks l j)
-laid-own ready here one laid = rw (here, one) at laid
-
-pub desk-lent :
-    {l r r' : List ℕ} {n : ℕ} {j : Job} (late map : List ℕ) → Ready l j → length r ≡ most_edges → late_room most_edges ≤ length late
-    → most_ticks ≤ length map → LaidIn r r' n j.wheel.w (job_ticks l j)
-    → Lent (take n r') j.wheel.w (single j.task) late (take j.wheel.w map) × Long j.task
-desk-lent {r' = r'} {n = n} {j} late map ready edges room ticks laid =
-    let runs = handed laid (le_of_eq edges) in (
-      record {
-        runs = runs.0;
-        within = ready.long.within;
-        room = omega (arith, min-le_left (late_room (length (take n r'))) j.wheel.w, runs.1, room);
-        long = length-take-le _ _ (omega (arith, ready.good.most, ticks));
-      },
-      ready.long,
-    )
+-- The slots of the job with one strip are laid out as the job's own ticks.
+pub own-runs :
+    {l m r r' : List ℕ} {n : ℕ} {j s : Job} → length r ≤ most_edges → m ≡ l → s ≡ singly j → LaidIn r r' n s.wheel.w (job_ticks m s)
+    → Own l j (take n r') j.wheel.w
+own-runs {l} {r = r} {r'} {n} {j} most here one laid =
+    let own : LaidIn r r' n j.wheel.w (job_ticks l j) = rw (here, one) at laid in
+    record { laid = own.laid; wheel = refl; few = (handed own most).1 }

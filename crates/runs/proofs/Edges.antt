@@ -5,9 +5,9 @@
 use mathlib.Core.Path.{◌≡◌, refl, sym, ap, ◌∙◌}
 use mathlib.Core.Logic.{⊎_elim}
 use mathlib.Core.List.{List, [], ◌∷◌, ◌++◌}
-use Prim.Native.Nat.{ℕ, zero, suc, ◌+◌, ◌%◌, ◌≤◌, ◌<◌}
+use Prim.Native.Nat.{ℕ, zero, suc, ◌+◌, ◌-◌, ◌%◌, ◌≤◌, ◌<◌}
 use native.Mathlib.Numerals.{add-one}
-use native.Mathlib.Nat.{eq-or-lt_of_le}
+use native.Mathlib.Nat.{add-zero, add-suc, le_refl, eq-or-lt_of_le}
 use native.Mathlib.Omega.{arith}
 use lib.ListN.{length, get_or, take, set, get_or-eq_default}
 use lib.Seq.{take-suc-set, length-take-le}
@@ -128,6 +128,21 @@ pub lay-span :
 lay-span {l} {l'} {n} {at} {step} {r} u to t lay room on after =
     let parity : length (take r l') % 2 ≡ step = ap (λ k. k % 2) (length-take-le r l' room) ∙ t.parity in
     lay-on (take r l') at to u (lay-turn t lay) on (λ x low high. after x low high ∙ sym parity)
+
+-- ---- edges in order
+
+module _ (l : List ℕ) (to : ℕ) (order : (i : ℕ) → edge l to i ≤ edge l to (suc i)) where
+  rises-by : (i n : ℕ) → edge l to i ≤ edge l to (i + n)
+  rises-by i zero = rw add-zero (le_refl _)
+  rises-by i (suc n) = rw add-suc (omega (arith, rises-by i n, order (i + n)))
+
+  pub edge-rises : (i j : ℕ) → i ≤ j → edge l to i ≤ edge l to j
+  edge-rises i j less =
+      let e : i + (j - i) ≡ j = omega arith in
+      rw e at (rises-by i (j - i))
+
+  pub edge-most : (i : ℕ) → edge l to i ≤ to
+  edge-most i = omega (arith, rises-by i (suc (length l)), edge-past l to (i + suc (length l)) (omega arith))
 
 -- ---- runs of some set
 

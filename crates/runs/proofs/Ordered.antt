@@ -1,11 +1,11 @@
 -- Edges in order within a wheel lay out some set, and the edges of what lays one out are in order: a value of Ticks has runs of some set.
 -- The set is had by counting the edges that a tick has come past. Assumes nothing.
-use Rattle.std.proofs.Common.{◌≡◌, refl, ap, ◌∙◌, List, [], ◌∷◌, ℕ, zero, suc, ◌+◌, ◌-◌, ◌%◌, ◌≤◌, ◌<◌, length, get_or, eqb, leb, cond, le_refl, arith}
-use Rattle.std.proofs.Math.Nat.{mod-eq_of_lt, add-mod_right, add-zero, add-suc}
+use Rattle.std.proofs.Common.{◌≡◌, refl, ap, ◌∙◌, List, [], ◌∷◌, ℕ, zero, suc, ◌%◌, ◌≤◌, ◌<◌, get_or, eqb, leb, cond, arith}
+use Rattle.std.proofs.Math.Nat.{mod-eq_of_lt, add-mod_right}
 use Rattle.std.proofs.lemmas.Bool.Decides.{nat_tests}
 use Rattle.rules.specs.Sums.{Subset, bit}
 use Rattle.runs.specs.Runs.{edge, Laid, Runs, Ordered}
-use Rattle.runs.proofs.Edges.{edge-past}
+use Rattle.runs.proofs.Edges.{edge-rises, edge-most}
 
 -- ---- of a set that is laid out
 
@@ -35,16 +35,6 @@ gone-at (e ∷ l) w x (suc i) before at =
 abbrev set-of : List ℕ → ℕ → Subset
 set-of l w x = eqb (gone (x % w) l % 2) 1
 
-rises-by : (l : List ℕ) (w : ℕ) → Ordered l w → (i n : ℕ) → edge l w i ≤ edge l w (i + n)
-rises-by l w o i zero = rw add-zero (le_refl (edge l w i))
-rises-by l w o i (suc n) = let next : i + suc n ≡ suc (i + n) = add-suc i n in rw next (omega (arith, rises-by l w o i n, o.order (i + n)))
-
-rises : (l : List ℕ) (w : ℕ) → Ordered l w → (i j : ℕ) → i ≤ j → edge l w i ≤ edge l w j
-rises l w o i j s = let e : j ≡ i + (j - i) = omega arith in rw e (rises-by l w o i (j - i))
-
-within : (l : List ℕ) (w : ℕ) → Ordered l w → (i : ℕ) → edge l w i ≤ w
-within l w o i = omega (arith, rises-by l w o i (suc (length l)), edge-past l w (i + suc (length l)) (omega arith))
-
 bit-odd : (n : ℕ) → n < 2 → bit (eqb n 1) ≡ n
 unfolding bit
 bit-odd zero s = refl
@@ -54,8 +44,8 @@ bit-odd (suc (suc n)) s = absurd (omega arith)
 alike : (l : List ℕ) (w : ℕ) → Ordered l w → (i x : ℕ) → edge l w i ≤ x → x < edge l w (suc i) → bit (set-of l w x) ≡ i % 2
 unfolding edge
 alike l w o i x low high =
-    let in_it : x % w ≡ x = mod-eq_of_lt (omega (arith, within l w o (suc i))) in
-    let come : gone x l ≡ i = gone-at l w x i (λ j s. omega (arith, rises l w o (suc j) i (omega arith))) high in
+    let in_it : x % w ≡ x = mod-eq_of_lt (omega (arith, edge-most l w o.order (suc i))) in
+    let come : gone x l ≡ i = gone-at l w x i (λ j s. omega (arith, edge-rises l w o.order (suc j) i (omega arith))) high in
     ap (λ y. bit (eqb (gone y l % 2) 1)) in_it ∙ ap (λ n. bit (eqb (n % 2) 1)) come ∙ bit-odd (i % 2) (omega arith)
 
 pub runs_in : {l : List ℕ} {w : ℕ} → Ordered l w → Runs l w

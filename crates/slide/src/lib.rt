@@ -9,7 +9,7 @@ ghost use Rattle.slide.specs.Slides.{Hit, Pick, Ranked, Slid, Round};
 use limits::Wheel;
 use maps::Crest;
 
-// The better of two counts with their ticks: the larger one, and of equal ones that of the earlier tick.
+// The better of two counts with their ticks: the larger one, and of equal ones that of the earlier tick. An `Ord` would need its laws, for one call.
 fn pick(best: Crest, other: Crest) -> Crest
     ensures { Pick best.drops best.at other.drops other.at result.drops result.at }
 {

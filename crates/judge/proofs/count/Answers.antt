@@ -1,13 +1,11 @@
 -- What the gate lets in is asked, and the reply is what it answers (proofs/Gates.antt). Assumes nothing.
 use Rattle.std.proofs.Common.{Ok, Err}
-use Rattle.std.proofs.lemmas.Result.{err_from_is_err_and}
+use Rattle.judge.proofs.Exits.{passed}
 use Rattle.judge.proofs.Gates.{enter-asked, counted}
 use Rattle.judge.proofs.count.Goals as goal
 
 pub returns-in_err-enter : goal.returns-in_err-enter
-returns-in_err-enter c =
-    let p = err_from_is_err_and c.from_residual.result c.from_residual.ensures.1 in
-    rw (p.1, p.2) (counted _ _ _ (Err _) c.in_err-enter.ensures)
+returns-in_err-enter c = rw (passed _ _ c.from_residual.ensures.1) (counted _ _ _ (Err _) c.in_err-enter.ensures)
 
 pub count-requires : goal.count-requires
 count-requires c = enter-asked _ _ _ _ c.in_ok-enter.ensures.0 c.in_ok-enter.ensures.1

@@ -1,20 +1,18 @@
 -- One law for each way out (proofs/Replies.antt). Assumes nothing.
-use Rattle.std.proofs.lemmas.Result.{err_from_is_err_and}
 use Rattle.records.specs.Refusals.{room}
 use Rattle.records.proofs.Parts.{sizes-long}
-use Rattle.judge.proofs.Replies.{judged-sizes, judged-room, judged-as, room-long}
+use Rattle.judge.proofs.Exits.{passed}
+use Rattle.judge.proofs.Replies.{called-sizes, called-room, judged, judged-as, room-long}
 use Rattle.judge.proofs.judge.Goals as goal
 
 pub returns-in_err-sizes : goal.returns-in_err-sizes
-returns-in_err-sizes c =
-    let p = err_from_is_err_and c.from_residual.result c.from_residual.ensures.1 in
-    rw (p.1, p.2) (judged-sizes _ _ _ _ c.in_err-sizes.ensures)
+returns-in_err-sizes c = rw (passed _ _ c.from_residual.ensures.1) (judged _ _ _ (called-sizes _ _ _ _ _ c.in_err-sizes.ensures))
 
 pub returns-in_err-when : goal.returns-in_err-when
 unfolding room
 returns-in_err-when c =
-    let p = err_from_is_err_and c.from_residual-in_err-when.result c.from_residual-in_err-when.ensures.1 in
-    rw (p.1, p.2) (judged-room _ _ _ c.in_ok-sizes.ensures.0 _ c.in_err-when.ensures)
+    rw (passed _ _ c.from_residual-in_err-when.ensures.1)
+    (judged _ _ _ (called-room _ _ _ _ c.in_ok-sizes.ensures.0 _ c.in_err-when.ensures))
 
 pub read-r-requires : goal.read-r-requires
 read-r-requires c = sizes-long _ _ c.in_ok-sizes.ensures.0

@@ -1,19 +1,15 @@
 -- One law for each way out (proofs/Sites.antt). Assumes nothing.
-use Rattle.std.proofs.lemmas.Result.{err_from_is_err_and}
+use Rattle.judge.proofs.Exits.{passed}
 use Rattle.site.specs.Site.{site_room}
 use Rattle.site.proofs.Sites.{roomy, sited-sizes, sited-room, sited-walked}
 use Rattle.site.proofs.site.Goals as goal
 
 pub returns-in_err-whole : goal.returns-in_err-whole
-returns-in_err-whole c =
-    let p = err_from_is_err_and c.from_residual.result c.from_residual.ensures.1 in
-    rw (p.1, p.2) (sited-sizes _ _ _ _ c.in_err-whole.ensures)
+returns-in_err-whole c = rw (passed _ _ c.from_residual.ensures.1) (sited-sizes _ _ _ _ c.in_err-whole.ensures)
 
 pub returns-in_err-when : goal.returns-in_err-when
 unfolding site_room
-returns-in_err-when c =
-    let p = err_from_is_err_and c.from_residual-in_err-when.result c.from_residual-in_err-when.ensures.1 in
-    rw (p.1, p.2) (sited-room _ _ _ c.in_ok-whole.ensures.0 _ c.in_err-when.ensures)
+returns-in_err-when c = rw (passed _ _ c.from_residual-in_err-when.ensures.1) (sited-room _ _ _ c.in_ok-whole.ensures.0 _ c.in_err-when.ensures)
 
 pub walk-requires : goal.walk-requires
 unfolding site_room

@@ -2,23 +2,23 @@
 -- the walk.
 use Rattle.std.proofs.Common.{rules, FitsSigned, w32}
 use Rattle.std.proofs.lemmas.Int.{to_z-of_z}
-use Rattle.runs.proofs.Ordered.{runs_ordered}
-use Rattle.room.proofs.Sides.{late-runs}
+use Rattle.runs.proofs.Ordered.{runs_in}
+use Rattle.room.proofs.Sides.{late-ordered, late-runs}
 use Rattle.room.proofs.Ridges.{nearest}
 use Rattle.rounds.proofs.Found.{late-any, drawn-on, drawn-ring, ridged}
-use Rattle.rounds.proofs.work.found.Goals as goal
+use Rattle.rounds.proofs.work.Desk.found.Goals as goal
 
-pub invariant_of-laid : goal.invariant_of-laid
-invariant_of-laid c = record { runs = runs_ordered (late-runs c.requires.0.runs c.late-pass.ensures) }
+pub invariant_of-zones : goal.invariant_of-zones
+invariant_of-zones c = record { runs = late-ordered c.args.self.now.runs.runs c.late-pass.ensures }
 
 pub worst-top-requires : goal.worst-top-requires
 worst-top-requires c =
-    drawn-ring (late-runs c.requires.0.runs c.late-pass.ensures) (drawn-on _ c.requires.0.long c.mark.ensures) c.requires.1
+    let desk = c.args.self.now in
+    drawn-ring (late-runs (runs_in desk.runs.runs) c.late-pass.ensures) (drawn-on _ desk.lent.1.long c.mark.ensures) desk.lent.0
 
 pub offset-requires : goal.offset-requires
 offset-requires c =
-    ridged c.requires.0 c.requires.1 c.single.ensures c.late-pass.ensures (drawn-on _ c.requires.0.long c.mark.ensures)
-    c.worst-top.ensures
+    ridged _ c.single.ensures c.late-pass.ensures (drawn-on _ c.args.self.now.lent.1.long c.mark.ensures) c.worst-top.ensures
 
 pub returns : goal.returns
 returns c =
