@@ -1,12 +1,10 @@
 -- The mark bytes: a test of them and of their places, and giving the first free ones away. Assumes nothing.
-use Rattle.std.proofs.Common.{◌≡◌, refl, sym, ap, ◌∙◌, ⊎_elim, Bool, true, false, cond, ◌&&◌, List, ℕ, zero, suc, ◌+◌, ◌≤◌, ◌<◌, length, get_or, set, take, eqb, ltb, count_by, add-one, get_or-set_same, get_or-set_other, arith}
+use Rattle.std.proofs.Common.{◌≡◌, refl, sym, ap, ◌∙◌, ⊎_elim, Bool, true, false, cond, ◌&&◌, List, ℕ, ◌+◌, ◌≤◌, ◌<◌, length, get_or, set, eqb, ltb, get_or-set_same, get_or-set_other, arith}
 use Rattle.std.specs.List.{list_any}
 use Rattle.std.proofs.Math.Nat.{add-zero, le_refl}
 use Rattle.std.proofs.Math.ListN.{length-set}
-use Rattle.std.proofs.Math.Seq.{take-length}
 use Rattle.std.proofs.lemmas.List.Folds.{list_any_at, list_any_none}
 use Rattle.std.proofs.lemmas.List.Elements.{All-from_get_or}
-use Rattle.std.proofs.lemmas.List.Sums.{count_by_more_yes, count_by_more_no}
 use borrow.Author.Tests.{lt-ltb, le-ltb}
 use Rattle.rules.specs.Sums.{bit, any, number}
 use Rattle.rules.specs.Grant.{first}
@@ -22,26 +20,6 @@ module _ (p : ℕ → Bool) (l : List ℕ) where
       (λ x. list_any_at p l x.place 0 x.below x.passes ∙ sym (any-intro _ (length l) x.place x.below x.passes))
       (λ none. list_any_none p l (All-from_get_or (λ x. p x ≡ false) l 0 none) ∙ sym (any_none _ (length l) none))
       (found-or-none (λ i. p (get_or l i 0)) (length l))
-
-  number-take : (i : ℕ) → i ≤ length l → count_by p (take i l) ≡ number (λ i. p (get_or l i 0)) i
-  unfolding bit
-  number-take zero s = sym (number-none _)
-  number-take (suc i) s = go (p (get_or l i 0)) refl (number-take i (omega arith))
-    where
-      go :
-          (b : Bool) → p (get_or l i 0) ≡ b → count_by p (take i l) ≡ number (λ i. p (get_or l i 0)) i
-          → count_by p (take (suc i) l) ≡ number (λ i. p (get_or l i 0)) (suc i)
-      go true e before =
-          let one : bit (p (get_or l i 0)) ≡ 1 = ap bit e in
-          rw (← add-one i)
-          (omega (arith, count_by_more_yes p l i 0 (omega arith) e, number_more (λ i. p (get_or l i 0)) i, one))
-      go false e before =
-          let none : bit (p (get_or l i 0)) ≡ 0 = ap bit e in
-          rw (← add-one i)
-          (omega (arith, count_by_more_no p l i 0 (omega arith) e, number_more (λ i. p (get_or l i 0)) i, none))
-
-  pub number-list : count_by p l ≡ number (λ i. p (get_or l i 0)) (length l)
-  number-list = ap (count_by p) (sym (take-length l)) ∙ number-take (length l) (le_refl _)
 
 pub bad_list : (l : List ℕ) → list_any (λ x. ltb 1 x) l ≡ any (λ i. ltb 1 (get_or l i 0)) (length l)
 bad_list l = any_list (λ x. ltb 1 x) l

@@ -12,11 +12,15 @@ pub fn bad(marks: &[u8]) -> bool
     marks.iter().any(|mark| 1 < *mark)
 }
 
-// How many slots are free.
+// How many slots are free. A sum of tests, which the compiler turns into vector instructions: a filter that counts took half as long again.
 pub fn free(marks: &[u8]) -> usize
     ensures { (result ≡ number (free_of marks.now) (length marks.now)) × (result ≤ length marks.now) }
 {
-    marks.iter().filter(|mark| ticks::free(**mark)).count()
+    let mut n = 0;
+    for mark in marks {
+        n += usize::from(ticks::free(*mark));
+    }
+    n
 }
 
 // Gives the first j free slots away.
