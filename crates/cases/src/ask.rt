@@ -75,7 +75,7 @@ impl Case<'_> {
     // Which slot is bad, and what about it.
     fn which(&self, rt: &impl Print) -> io::Result<()> {
         let (refusal, place) = match which::which_slot(self.task, self.slots) {
-            Ok(()) => (0, 0),
+            Ok(()) => records::board::nowhere(0),
             Err(t) => (t.refusal.number(), t.place),
         };
         asked(rt, "which", self.name)?;

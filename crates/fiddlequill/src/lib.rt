@@ -61,7 +61,7 @@ pub fn fiddlequill_which_slot(task: &[u8], slots: &[u8]) -> u64
     ensures { PackedWhich task.now slots.now result }
 {
     let (number, place) = match which::which_slot(task, slots) {
-        Ok(()) => (0, 0),
+        Ok(()) => records::board::nowhere(0),
         Err(t) => (t.refusal.number(), t.place),
     };
     halves(number, place)

@@ -23,17 +23,14 @@ pub fn free(marks: &[u8]) -> usize
     n
 }
 
-// Gives the first j free slots away.
+// Gives the first j free slots away. Each mark is chosen and none is jumped over: on marks in no pattern the jumps cost a grant with m 0 as much again.
 pub fn give(marks: &mut [u8], j: usize)
     ensures { Marked marks.old j marks.new }
 {
     let mut seen = 0;
     for mark in marks.iter_mut() {
-        if ticks::free(*mark) {
-            if seen < j {
-                *mark = 2;
-            }
-            seen += 1;
-        }
+        let free = ticks::free(*mark);
+        *mark = if free && seen < j { 2 } else { *mark };
+        seen += usize::from(free);
     }
 }

@@ -65,8 +65,11 @@ pub fn find(marks: &[u8], grid: Grid, task: Task, runs: &mut [u16; FEW_EDGES]) -
         task,
         all,
     };
-    if all == 0 || !offer.firm(all, runs) {
+    if all == 0 {
         return None;
     }
-    Some(offer.halve(runs))
+    if offer.firm(all, runs) {
+        return Some(offer.halve(runs));
+    }
+    None
 }

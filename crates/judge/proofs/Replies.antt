@@ -10,7 +10,6 @@ use native.Mathlib.Nat.{zero-lt-suc}
 use borrow.Author.Tests.{le-ltb, ltb-false}
 use Rattle.std.specs.Prelude.{Result, Ok, Err}
 use Rattle.rules.specs.Worst.{firm_test}
-use Rattle.rules.proofs.Worst.{firm-agrees}
 use Rattle.octets.specs.Octets.{over}
 use Rattle.limits.specs.Refusal.{number, refusal, ◌otherwise◌}
 use Rattle.limits.specs.Limits.{asked}
@@ -28,6 +27,7 @@ use Rattle.records.proofs.Accepts.{body-high}
 use Rattle.room.specs.declared.Peak.{Peak}
 use Rattle.jobs.specs.Lent.{Peaked}
 use Rattle.judge.specs.Judge.{Outcome, Answered, Judged}
+use Rattle.judge.proofs.Answered.{answered-as}
 
 -- ---- what comes of a task record
 
@@ -46,6 +46,10 @@ outcome-number r l n (Ok f) o = sym o.0
 outcome-number r l n (Err bad) o = o
 
 -- ---- the reply
+
+-- 0 and the numbers above 2 are neither 1 nor 2.
+pub not_low : (n : ℕ) → (n ≡ 1) ⊎ (n ≡ 2) → (0 < n → 2 < n) → ⊥
+not_low n low high = ⊎_elim (λ one. let h = high (omega arith) in omega arith) (λ two. let h = high (omega arith) in omega arith) low
 
 -- What a call that gave number n has left: numbers 1 and 2 write nothing, any other goes into the record, and 0 has an answer.
 pub record Replied (task slots reply : List ℕ) (n : ℕ) (after : List ℕ) : Type 0 where
@@ -77,26 +81,19 @@ module _ (task slots reply : List ℕ) where
   replied : (n : ℕ) (x : Result Found Refusal) (after : List ℕ)
       → Outcome (task_record task) slots n x → ((n ≡ 0 → ⊥) → 2 < n)
       → after ≡ over (answer_of (task_record task).id x) reply → Replied task slots reply (refusal x) after
+  unfolding ticks_of board_of
   replied n (Ok f) after o high written =
       record {
-        silent = λ low. absurd (⊎_elim (λ one. omega arith) (λ two. omega arith) low);
+        silent = λ low. absurd (not_low 0 low (λ some. absurd (omega arith)));
         refused = λ low. absurd (omega arith);
         answered = λ _.
-            record {
-              drops = f.drops;
-              offset = f.offset;
-              firm = f.firm;
-              margin = f.margin;
-              worst = o.2;
-              said = rw o.1 (firm-agrees _ _ _ f.drops f.offset o.2);
-              least = o.3;
-              bytes = written;
-            };
+            answered-as task slots reply (task_record task) (job_of (task_record task)) f.drops f.offset f.margin after refl refl (o.2, o.3)
+            (rw o.1 at written);
       }
   replied n (Err bad) after o high written =
       let some : 2 < number bad = rw o (high (λ z. number-some bad (o ∙ z))) in
       record {
-        silent = λ low. absurd (⊎_elim (λ one. omega arith) (λ two. omega arith) low);
+        silent = λ low. absurd (not_low _ low (λ _. some));
         refused = λ _. written;
         answered = λ none. absurd (number-some bad none);
       }

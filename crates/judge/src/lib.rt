@@ -9,7 +9,7 @@ ghost use Rattle.octets.specs.Octets.{over};
 ghost use Rattle.rules.specs.Worst.{firm_test};
 ghost use Rattle.limits.specs.Limits.{asked};
 ghost use Rattle.limits.specs.Refusal.{refusal, given};
-ghost use Rattle.records.specs.Records.{reply_bytes};
+ghost use Rattle.records.specs.Records.{reply_bytes, answer_bytes};
 ghost use Rattle.records.specs.Answers.{answer_of};
 ghost use Rattle.records.specs.Refusals.{body_refusal, point_refusal};
 ghost use Rattle.judge.specs.Judge.{Outcome, Judged};
@@ -43,14 +43,26 @@ fn outcome(r: TaskRecord, slots: &[u8]) -> Result<Found, Refusal>
     Ok(found(job.task, accepted.worst()))
 }
 
+// Writes a refusal by its number, whatever number it is, and gives that.
+pub fn refuse(reply: &mut [u8], id: usize, bad: u32) -> u32
+    requires { reply_bytes ≤ length reply.old }
+    ensures { (result ≡ bad) × (reply.new ≡ over (answer_bytes id bad 0 0 0 (pos 0)) reply.old) }
+{
+    octets::put(reply, &records::answer::laid(id, bad, 0, 0, 0, 0));
+    bad
+}
+
 // Writes what came of judging over the first bytes of the reply, and passes a refusal on. Inlined, for the shortest calls.
 #[inline(always)]
 pub fn answer(reply: &mut [u8], id: usize, outcome: Result<Found, Refusal>) -> Result<(), Refusal>
     requires { reply_bytes ≤ length reply.old }
     ensures { (refusal result ≡ refusal outcome) × (reply.new ≡ over (answer_of id outcome) reply.old) }
 {
+    if let Err(bad) = outcome {
+        refuse(reply, id, bad.number());
+        return Err(bad);
+    }
     octets::put(reply, &records::answer::bytes(id, outcome));
-    outcome?;
     Ok(())
 }
 

@@ -22,5 +22,7 @@ pub fn lookup<'a>(site: &'a [u8], factory: &'a [u8], id: u32) -> &'a [u8]
     ensures { result.now ≡ looked_up site.now factory.now id }
 {
     let id = id as usize;
-    find(site, id).or_else(|| find(factory, id)).unwrap_or(&[])
+    find(site, id)
+        .or_else(|| find(factory, id))
+        .unwrap_or(&factory[..0])
 }

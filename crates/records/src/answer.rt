@@ -7,6 +7,7 @@ ghost use Rattle.records.specs.Answers.{answer_of};
 use limits::Refusal;
 
 // How long an answer record is.
+#[derive(Drop)]
 pub struct Answer;
 
 impl Answer {
@@ -49,7 +50,7 @@ pub fn laid(
     let [f0, f1, ..] = firm.to_le_bytes();
     let [c0, c1, c2, c3] = drops.to_le_bytes();
     let [o0, o1, o2, o3] = offset.to_le_bytes();
-    let [g0, g1, g2, g3] = margin.to_le_bytes();
+    let [g0, g1, g2, g3] = octets::twos(margin).to_le_bytes();
     [
         i0, i1, i2, i3, n0, n1, f0, f1, c0, c1, c2, c3, o0, o1, o2, o3, g0, g1, g2, g3,
     ]

@@ -34,6 +34,13 @@ impl From<Trouble> for Refusal {
     }
 }
 
+// A number that is about no single slot, whatever number it is: its place is 0.
+pub fn nowhere(number: u32) -> (u32, u32)
+    ensures { result ≡ (number, 0) }
+{
+    (number, 0)
+}
+
 // Slot record `first` + i.
 #[tactic(auto, unfolding(crate::specs::Records::slot_at))]
 pub fn slot_at(slots: &[u8], first: usize, i: usize) -> Slot

@@ -9,6 +9,7 @@ use native.Mathlib.Nat.{mul_left_comm}
 use native.Mathlib.Omega.{arith}
 use lib.IntN.{ℤ}
 use lib.ListN.{length, get_or, take, get_or-eq_default}
+use lib.Seq.{length-take-le}
 use Rattle.rules.specs.Sums.{Subset, bit, number}
 use Rattle.rules.specs.Supply as rules
 use Rattle.rules.specs.Supply.{dropped, drops, count}
@@ -66,14 +67,22 @@ module _ (l : List ℕ) (w : ℕ) (m : List ℕ) (runs : Runs l w) (long : lengt
 -- The late ticks are runs of some set, and have no more edges than the wheel has ticks.
 pub late-runs :
     {l : List ℕ} {w : ℕ} {t : Task} {side n : ℕ} {g : ℤ} {late late' : List ℕ} → Runs l w → LateIn l w t side late n g late'
-    → Runs (take n late') w
+    → Runs (take n late') w × (length (take n late') ≤ w)
 unfolding Runs
-late-runs {t = t} {side} runs lates = (λ a. dropped 2 runs.0 (asked t) (2 * a + side), lates.laid runs.0 runs.1)
+late-runs {t = t} {side} {n} {late' = late'} runs lates = (
+  (λ a. dropped 2 runs.0 (asked t) (2 * a + side), lates.laid runs.0 runs.1),
+  omega (arith, length-take-le n late' lates.room, lates.few),
+)
+
+pub lates-runs :
+    {l : List ℕ} {w : ℕ} {t : Task} {side n : ℕ} {g : ℤ} {late late' : List ℕ} → Runs l w → (map : List ℕ) → length map ≡ w
+    → LateIn l w t side late n g late' → Runs (take n late') (length map) × (length (take n late') ≤ length map)
+lates-runs runs map long lates = rw long (late-runs runs lates)
 
 pub late-ordered :
     {l : List ℕ} {w : ℕ} {t : Task} {side n : ℕ} {g : ℤ} {late late' : List ℕ} → Ordered l w → LateIn l w t side late n g late'
     → Ordered (take n late') w
-late-ordered order lates = runs_ordered (late-runs (runs_in order) lates)
+late-ordered order lates = runs_ordered (late-runs (runs_in order) lates).0
 
 -- ---- a count
 

@@ -34,7 +34,8 @@ fn outline(late: Ticks, task: Task, map: &mut [u8]) -> Option<Crest>
     None
 }
 
-// The largest count of k strips along late runs.
+// The largest count of k strips along late runs. Inlined: judging has its own way through the room, and none that it would share with the verdict.
+#[inline(always)]
 pub fn crest<D: FnOnce(&[u8], usize, usize) -> Crest>(
     late: Ticks,
     task: Task,

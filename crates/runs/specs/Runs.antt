@@ -4,7 +4,7 @@
 --     Lay l to u               up to tick `to` the runs of l are those of u: even runs out of it, odd ones in it
 --     Laid l w u               the same of a whole wheel within its bound
 --     Runs l w                 l lays out some set of ticks of a wheel of w ticks
---     Ordered l w              what that comes to: a wheel within its bound, and edges in order within it (ordered_of and runs-ordered)
+--     Ordered l w              what that comes to: a wheel within its bound, and edges in order within it (runs_in and runs_ordered)
 --     LaidIn l l' r w u        a buffer l that has become l': as long as before, and its first r entries lay out u
 --     Turn l n at step r l'    the first r entries of l' are the first n of l, with an edge at `at` where the parity of n isn't step
 --

@@ -21,7 +21,10 @@ pub loop-c-init : goal.loop-c-init
 loop-c-init c = orbits-none _ _ _ _ _
 
 pub lap-found-requires : goal.lap-found-requires
-lap-found-requires c = lap-asked c.requires c.gcd-orbits.ensures c.loop-c-test.true
+lap-found-requires c =
+    -- Any round that fits the wheel may be lapped: a lap of another length fails where its drops are raised.
+    let asked = lap-asked c.requires c.gcd-orbits.ensures c.loop-c-test.true in
+    (asked.0, omega (arith, asked.1), asked.2, asked.3)
 
 pub raised-requires : goal.raised-requires
 raised-requires c = lapped-fits _ c.fits-rounds.ensures c.lap-found.ensures (ring_of c.requires (le_refl _))

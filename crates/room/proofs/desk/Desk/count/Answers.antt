@@ -18,7 +18,7 @@ tally-requires c =
     let within = desk.lent.0 in
     let drew = c.draw.ensures in
     let long = drew.0 ∙ desk.lent.1.long in (
-      drawn-sized _ _ _ (late-runs (runs_in desk.runs.runs) c.late-pass.ensures) long drew.1 _ _ within.period within.strips,
+      drawn-sized _ _ _ (late-runs (runs_in desk.runs.runs) c.late-pass.ensures).0 long drew.1 _ _ within.period within.strips,
       omega (arith, long, c.requires),
     )
 

@@ -14,7 +14,7 @@ invariant_of-zones c = record { runs = late-ordered c.args.self.now.runs.runs c.
 pub worst-top-requires : goal.worst-top-requires
 worst-top-requires c =
     let desk = c.args.self.now in
-    drawn-ring (late-runs (runs_in desk.runs.runs) c.late-pass.ensures) (drawn-on _ desk.lent.1.long c.mark.ensures) desk.lent.0
+    drawn-ring (late-runs (runs_in desk.runs.runs) c.late-pass.ensures).0 (drawn-on _ desk.lent.1.long c.mark.ensures) desk.lent.0
 
 pub offset-requires : goal.offset-requires
 offset-requires c =

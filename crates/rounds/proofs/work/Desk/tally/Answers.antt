@@ -12,7 +12,7 @@ pub count-requires : goal.count-requires
 count-requires c =
     let desk = c.args.self.now in
     let drew = drawn-on _ desk.lent.1.long c.mark.ensures in
-    let runs = late-runs (runs_in desk.runs.runs) c.late-pass.ensures in
+    let runs = (late-runs (runs_in desk.runs.runs) c.late-pass.ensures).0 in
     (drawn-mapped _ _ _ runs drew.0 drew.1, drawn-ring runs drew desk.lent.0, omega (arith, drew.0, c.requires))
 
 pub returns : goal.returns
